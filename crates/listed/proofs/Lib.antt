@@ -1,0 +1,5 @@
+pub mod Blanks
+pub mod Heads
+pub mod Exactly
+pub mod Found
+pub mod Givings

@@ -1,0 +1,5 @@
+-- Lemmas that several proofs share.
+pub mod Numbers
+pub mod Cuts
+pub mod Turns
+pub mod Back

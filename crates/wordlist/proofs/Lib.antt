@@ -1,0 +1,4 @@
+pub mod Bits
+pub mod Parts
+pub mod Runs
+pub mod Spelling

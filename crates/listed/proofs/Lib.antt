@@ -1,3 +1,4 @@
+pub mod Padded
 pub mod Blanks
 pub mod Heads
 pub mod Exactly

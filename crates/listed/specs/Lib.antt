@@ -1,3 +1,4 @@
+pub mod Padding
 pub mod Bodies
 pub mod Makes
 pub mod Waiting

@@ -6,7 +6,7 @@ use lib.Dec.{eqb, leb, ltb}
 use lib.ListN.{length}
 use Rattle.std.specs.declared.result.Result.{Result}
 use Rattle.std.specs.declared.result.Result.the-variants.{Ok, Err}
-use Rattle.plan.specs.Hall.{most-places, most-side}
+use Rattle.plan.specs.Hall.{Hall, most-places, most-side}
 use Rattle.wordlist.specs.declared.faults.RecordFault.{RecordFault}
 use Rattle.wordlist.specs.Cutting.{bodyOf}
 use Rattle.wordlist.specs.Fields.{field, kindOf}
@@ -16,7 +16,7 @@ use Rattle.listed.specs.declared.draft.Next.{Next}
 use Rattle.listed.specs.declared.draft.Next.the-variants as next
 use Rattle.listed.specs.declared.draft.Draft.{Draft}
 use Rattle.listed.specs.Bodies.{wordsIn}
-use Rattle.listed.specs.Layouts.{Layout, blank, layoutOf}
+use Rattle.listed.specs.Layouts.{Layout, blank, hallOf, layoutOf}
 use Rattle.listed.specs.Makes.{Make}
 
 -- what may stand next: the floor word, a head, or one of the words that a place still owes
@@ -118,3 +118,7 @@ turnOf (next.Body h b n) = body h (wordsIn b) n
 
 abbrev pub progressOf : {S P : Type 0} → (S → P) → Draft S → Progress P
 progressOf model d = record { layout = layoutOf model (d .sheet); turn = turnOf (d .next) }
+
+-- what the plan made from a list means: refused words give a floor of one point with no place
+abbrev pub hallFrom : {P : Type 0} → Make P → List ℕ → Hall
+hallFrom m ws = hallOf (m .meaning) (replaced blank (layoutFrom m ws))

@@ -5,3 +5,4 @@ pub mod Digits
 pub mod Reasons
 pub mod Reading
 pub mod Writing
+pub mod Worked

@@ -41,4 +41,16 @@ impl<S: Shape + Drop> Listed<S> {
         self.draft.clear();
         answer
     }
+
+    /// A new plan of what the words say, and the answer to them. The plan of refused words is a floor of one point with no place.
+    pub fn from_words(
+        heap: Global,
+        words: &[u32],
+    ) -> Result<(Listed<S>, Result<(), RecordFault>), AllocError>
+        ensures { λ r. ⌜ made r (λ p. (layoutOf (S·Shape .model) (p .0 .sheet) ≡ replaced blank (layoutFrom (S·Shape .make) (now (words .entry)))) × (p .1 ≡ answered (layoutFrom (S·Shape .make) (now (words .entry))))) ⌝ }
+    {
+        let mut plan = Listed::new(heap)?;
+        let answer = plan.read(words);
+        Ok((plan, answer))
+    }
 }

@@ -11,12 +11,16 @@ use super::Section;
 use std::alloc::AllocError;
 use std::alloc::Global;
 ghost use mathlib.Core.Path.{_≡_};
+ghost use mathlib.Core.List.{List};
 ghost use Prim.Native.Nat.{ℕ, _+_, _≤_, _<_};
 ghost use lib.ListN.{length};
 ghost use Rattle.std.specs.Vec.{made};
 ghost use Rattle.std.specs.Of.Vec.{vec-len, vec-cap};
+ghost use Rattle.std.specs.declared.result.Result.the-variants.{Ok};
 ghost use Rattle.plantext.specs.Parts.{linesOf, wordsOf};
 ghost use Rattle.plantext.specs.Reading.{blank, contentOf, roomOf, named, headingOf, opened, wordTaken, wordsTaken, lineTaken, linesTaken, readOf, answered, giving};
+ghost use Rattle.plantext.specs.Worked.{Worked};
+ghost use Rattle.plantext.specs.Writing.{written, Words, drawing};
 
 impl Heading {
     /// The section that a word names.
@@ -158,6 +162,7 @@ impl Page {
     /// Becomes what the text says, or empty where the text is refused.
     pub fn read(&mut self, text: &[u8]) -> Result<(), TextFault>
         ensures content { λ r. ⌜ (contentOf (now (self .exit)), r) ≡ answered (readOf (roomOf (now (self .entry))) (now (text .entry))) ⌝ }
+        ensures back { λ r. ⌜ ((ws : List ℕ) → Words ws → now (text .entry) ≡ written ws → length (now (text .entry)) ≤ roomOf (now (self .entry)) → (contentOf (now (self .exit)) ≡ drawing ws) × (r ≡ Ok tt)) ⌝ }
         ensures room { λ _. ⌜ roomOf (now (self .exit)) ≡ roomOf (now (self .entry)) ⌝ }
     {
         self.clear();
@@ -174,3 +179,8 @@ impl Page {
         answer
     }
 }
+
+/// The worked texts are read as they should be: no code runs, the contract is the theorem.
+fn worked()
+    ensures { λ _. ⌜ Worked ⌝ }
+{}

@@ -13,7 +13,7 @@ returns-in-Err c =
     let t = c .in-Err .ensures tt in
     record {
       content = line-off (c .loop-left .number) (c .loop-left .left .now) (c .cut .result .0 .now) (c .cut .result .1 .now) (c .cut-in-loop-left .result .0 .now) (contentOf (c .loop-left .self)) (c .in-Err .reason) more (here .front) (here .back) (c .cut-in-loop-left .ensures .front) (t .content) ∙ c .loop-left .inv .0;
-      room = t .room ∙ c .loop-left .inv .2;
+      room = cc (t .room, c .loop-left .inv .2);
     }
 
 pub loop-left-again : need.loop-left-again
@@ -25,7 +25,7 @@ loop-left-again c =
     let inv = c .loop-left .inv in (
       line-on (c .loop-left .number) (c .loop-left .left .now) (c .cut .result .0 .now) (c .cut .result .1 .now) (c .cut-in-loop-left .result .0 .now) (contentOf (c .loop-left .self)) (contentOf (c .take-line .last .self)) more (here .front) (here .back) (said .front) (t .content) ∙ inv .0,
       omega (arith, here .all, said .all, t .len, inv .1),
-      t .room ∙ inv .2,
+      cc (t .room, inv .2),
       omega (arith, here .less more, inv .3),
     )
 

@@ -13,7 +13,7 @@ loop-word-again c =
     let inv = c .loop-word .inv in (
       word-on (c .in-Some .word .now) (wordsOf (c .in-Some .rest .now)) (wordsOf (c .loop-word .left .now)) (contentOf (c .loop-word .self)) (contentOf (c .take-word .last .self)) (n .words) (t .content) ∙ inv .0,
       omega (arith, n .less, t .len, inv .1),
-      t .room ∙ inv .2,
+      cc (t .room, inv .2),
     )
 
 pub returns-in-Break-take-word : need.returns-in-Break-take-word
@@ -25,5 +25,5 @@ returns-in-Break-take-word c =
     record {
       content = rw (p .1, p .2) (word-off (c .in-Some .word .now) (wordsOf (c .in-Some .rest .now)) (wordsOf (c .loop-word .left .now)) (contentOf (c .loop-word .self)) _ (n .words) (t .content) ∙ inv .0);
       len = omega (arith, n .less, t .len, inv .1);
-      room = t .room ∙ inv .2;
+      room = cc (t .room, inv .2);
     }

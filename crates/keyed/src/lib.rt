@@ -1,0 +1,5 @@
+//! Records that are kept in the order of their keys.
+
+pub mod keys;
+pub mod shelf;
+pub mod slices;

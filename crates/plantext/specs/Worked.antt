@@ -1,0 +1,34 @@
+-- Worked texts.
+use mathlib.Core.Path.{_≡_}
+use mathlib.Core.List.{List, [], _∷_, _++_}
+use Prim.Native.Nat.{ℕ}
+use lib.Chars.{codes}
+use Rattle.std.specs.declared.result.Result.{Result}
+use Rattle.std.specs.declared.result.Result.the-variants.{Ok, Err}
+use Rattle.plantext.specs.declared.faults.Reason.the-variants.{NoSection, SecondSection, BadDigit, LongWord, MissingSection}
+use Rattle.plantext.specs.declared.faults.TextFault.{TextFault}
+use Rattle.plantext.specs.declared.faults.Reason.{Reason}
+use Rattle.plantext.specs.Reading.{Content, textOf, onLine}
+use Rattle.plantext.specs.Writing.{drawing}
+
+-- each line with the line feed that ends it
+abbrev pub ended : List (List ℕ) → List ℕ
+ended [] = []
+ended (l ∷ ls) = l ++ 10 ∷ ended ls
+
+-- a fault of a text
+abbrev pub refused : ℕ → Reason → Result Content TextFault
+refused n r = onLine n (Err r)
+
+-- texts that are read, and one for each reason
+abbrev pub Worked : Type 0
+Worked =
+    (textOf (ended (codes "# a hall" ∷ codes " drawn # the list" ∷ [] ∷ codes "10001008  aF#1" ∷ [])) ≡ Ok (drawing (0x10001008 ∷ 0xaf ∷ [])))
+    × (textOf (codes "drawn") ≡ Ok (drawing []))
+    × (textOf (ended (codes "7" ∷ codes "drawn" ∷ [])) ≡ refused 1 NoSection)
+    × (textOf (ended (codes "drawn" ∷ codes "1" ∷ codes "drawn" ∷ [])) ≡ refused 3 SecondSection)
+    × (textOf (ended (codes "drawn" ∷ codes "1 drawn" ∷ [])) ≡ refused 2 BadDigit)
+    × (textOf (ended (codes "drawn" ∷ (49 ∷ 9 ∷ []) ∷ [])) ≡ refused 2 BadDigit)
+    × (textOf (ended (codes "drawn" ∷ codes "123456789" ∷ [])) ≡ refused 2 LongWord)
+    × (textOf (ended (codes "# nothing" ∷ [] ∷ [])) ≡ refused 3 MissingSection)
+    × (textOf [] ≡ refused 1 MissingSection)

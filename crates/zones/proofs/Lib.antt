@@ -1,0 +1,4 @@
+-- The lemmas of this crate.
+pub mod Piles
+pub mod Givings
+pub mod Exactly

@@ -101,8 +101,8 @@ module _ {R K : Type 0} (less : K → K → Bool) (key : R → K) where
       is ∙ ap isSome (value (ap (rising less key) same ∙ up)) ∙ found-has ys k 0 ∙ ap (has less key k) same
 
   pub has-sure : (irreflexive : (a : K) → less a a ≡ false) (xs ys : List R) (k : K) (o : Option ℕ) (r : Bool) → ys ≡ xs → r ≡ isSome o → Cases o (Unit {0}) (λ i. i < length ys) → Cases o (Unit {0}) (λ i. At (λ x. key x ≡ k) ys i) → r ≡ true → has less key k xs ≡ true
-  has-sure irr xs ys k None r same is lt at yes = absurd (let z : _≡_ {A = ℕ} 0 1 = cc in omega arith)
-  has-sure irr xs ys k (Some i) r same is lt at yes = ap (has less key k) (sym same) ∙ has-at irr ys k i lt at
+  has-sure irr xs ys k None r same is lt at holds = absurd (let z : _≡_ {A = ℕ} 0 1 = cc in omega arith)
+  has-sure irr xs ys k (Some i) r same is lt at holds = ap (has less key k) (sym same) ∙ has-at irr ys k i lt at
 
   -- the keys before n are below k; the keys from n on are above it
   abbrev pub Before : List R → K → ℕ → Type 0

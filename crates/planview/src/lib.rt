@@ -3,13 +3,12 @@
 pub mod picture;
 
 use plan::Plan;
-
 ghost use mathlib.Core.Path.{_≡_};
 ghost use Prim.Native.Nat.{ℕ, _≤_};
 ghost use Rattle.planview.specs.Views.{pointsOfRow, pointsOf};
 
 /// How many points of row `y` a place covers.
-pub fn points_of_row<P: Plan>(plan: &P, place: usize, y: u16) -> u32
+fn points_of_row<P: Plan>(plan: &P, place: usize, y: u16) -> u32
     ensures value { λ r. ⌜ r ≡ pointsOfRow (hall (now (plan .entry))) place y ⌝ }
     ensures most { λ r. ⌜ r ≤ 256 ⌝ }
 {

@@ -46,7 +46,7 @@ impl Heading {
 }
 
 impl Page {
-    /// An empty page, which takes texts of at least up to `room` bytes.
+    /// An empty page with room for texts of up to `room` bytes.
     pub fn with_room(heap: Global, room: usize) -> Result<Page, AllocError>
         ensures { λ r. ⌜ made r (λ p. (contentOf p ≡ blank) × (room ≤ roomOf p)) ⌝ }
     {

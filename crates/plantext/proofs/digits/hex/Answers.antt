@@ -1,3 +1,4 @@
+-- `hex`: a digit is added to the number, which eight digits keep below 2 ^ 32.
 use native.Mathlib.Omega.{arith}
 use Rattle.plantext.proofs.Numbers.{bad-digit, next-digit, no-digit, grows, fits}
 use Rattle.plantext.proofs.digits.hex.Needs as need

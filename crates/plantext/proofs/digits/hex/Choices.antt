@@ -1,3 +1,4 @@
+-- `hex`: what its loop keeps true.
 use mathlib.Core.Path.{_≡_}
 use Prim.Native.Nat.{_<_, _^_}
 use lib.ListN.{drop}

@@ -1,3 +1,4 @@
+-- `cut`: the byte looked for is found, passed by, or not there.
 use mathlib.Core.Path.{sym, _∙_}
 use Prim.Native.Nat.{_+_}
 use native.Mathlib.Omega.{arith}

@@ -1,3 +1,4 @@
+-- `cut`: what its loop keeps true.
 use mathlib.Core.Path.{_≡_}
 use mathlib.Core.List.{_++_}
 use lib.ListN.{take, drop}

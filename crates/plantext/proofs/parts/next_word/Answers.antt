@@ -1,3 +1,4 @@
+-- `next_word`: an empty part is passed by, and any other is the word.
 use mathlib.Core.Path.{sym, ap, _∙_}
 use Prim.Native.Nat.{_<_}
 use native.Mathlib.Omega.{arith}

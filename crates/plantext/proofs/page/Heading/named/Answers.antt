@@ -1,3 +1,4 @@
+-- `named`: the test of the bytes is the test of the definition.
 use mathlib.Core.Path.{_≡_, sym, _∙_}
 use mathlib.Core.Bool.{Bool}
 use mathlib.Core.List.{List}

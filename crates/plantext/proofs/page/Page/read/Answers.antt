@@ -1,3 +1,4 @@
+-- `read`: what the page holds is what the text says, so words that are written out come back.
 use mathlib.Core.Path.{_≡_}
 use borrow.Author.Needs.{needs}
 use Rattle.std.specs.declared.result.Result.{Result}

@@ -1,3 +1,4 @@
+-- `take_lines`: one line on, the line that is refused, and the end of the text.
 use mathlib.Core.Path.{sym, ap, _∙_}
 use native.Mathlib.Omega.{arith}
 use lib.Dec.{eqb}

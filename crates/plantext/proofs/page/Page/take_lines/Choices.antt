@@ -1,3 +1,4 @@
+-- `take_lines`: what its loop keeps true, and what falls.
 use mathlib.Core.Path.{_≡_}
 use Prim.Native.Nat.{_+_, _≤_}
 use lib.ListN.{length}

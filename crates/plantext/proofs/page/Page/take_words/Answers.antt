@@ -1,3 +1,4 @@
+-- `take_words`: one word on, or the word that is refused.
 use mathlib.Core.Path.{_∙_}
 use native.Mathlib.Omega.{arith}
 use Rattle.std.proofs.shelf.Results.{err-from-errBy}

@@ -1,0 +1,4 @@
+pub mod Growing
+pub mod Turns
+pub mod Order
+pub mod Givings

@@ -1,0 +1,5 @@
+pub mod Facts
+pub mod Contents
+pub mod Rules
+pub mod Reading
+pub mod Spelling

@@ -1,0 +1,4 @@
+//! A policy, read from its words: badges, schemas and their parents, roles, permissions and assignments.
+
+pub mod charter;
+pub mod policy;

@@ -4,6 +4,7 @@ use Prim.Native.Nat.{ℕ}
 use Rattle.plan.specs.Hall.{Hall}
 use Rattle.listed.specs.Reading.{hallFrom}
 use Rattle.drawn.specs.Drawings.{drawnMake}
+use Rattle.zones.specs.Reading.{pileFrom}
 use Rattle.cells.specs.CellSets.{cellsMake}
 
 -- drawn, 8 by 8: place 0 of type 0 is the floor, places 1 and 2 of type 1 its halves, place 3 of type 2 the triangle (1,1) (3,1) (1,3)
@@ -30,3 +31,7 @@ cellWords =
 
 abbrev pub oneCell : Hall
 oneCell = hallFrom cellsMake cellWords
+
+-- the hall of eight by eight with one zone over it: place 4 is place 1 without place 3
+abbrev pub zoned : Hall
+zoned = pileFrom eight (0x60003061 ∷ [])

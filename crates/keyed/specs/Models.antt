@@ -1,8 +1,8 @@
 -- The orders of the two kinds of key: field by field, the highest first.
 use mathlib.Core.Bool.{Bool, cond}
 use lib.Dec.{eqb, ltb}
-use Rattle.keyed.specs.declared.keys.Pair.{Pair}
-use Rattle.keyed.specs.declared.keys.Triple.{Triple}
+use Rattle.keyed.specs.declared.pair.Pair.{Pair}
+use Rattle.keyed.specs.declared.triple.Triple.{Triple}
 
 -- pairs: by the high field, and by the low one where the high ones are the same
 abbrev pub pairLess : Pair → Pair → Bool

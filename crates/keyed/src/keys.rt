@@ -2,7 +2,6 @@
 
 ghost use mathlib.Core.Path.{_≡_};
 ghost use mathlib.Core.Bool.{Bool, true, false};
-ghost use Rattle.keyed.specs.Models.{pairLess, tripleLess};
 
 /// A total order of keys.
 pub trait KeyOrder {
@@ -33,35 +32,4 @@ pub trait Keyed {
     /// The key of this record.
     fn key(&self) -> Self::Key
         ensures { λ r. ⌜ r ≡ keyed (now (self .entry)) ⌝ };
-}
-
-/// A key of two fields, of which `high` counts first.
-#[derive(Clone, Copy, PartialEq, Eq, PartialOrd, Ord)]
-pub struct Pair {
-    pub high: u8,
-    pub low: u8,
-}
-
-/// A key of three fields, of which `high` counts first and `low` last.
-#[derive(Clone, Copy, PartialEq, Eq, PartialOrd, Ord)]
-pub struct Triple {
-    pub high: u8,
-    pub mid: u8,
-    pub low: u8,
-}
-
-pub impl KeyOrder for Pair as PairOrder {
-    ghost less = { pairLess };
-
-    fn below(&self, other: &Pair) -> bool {
-        *self < *other
-    }
-}
-
-pub impl KeyOrder for Triple as TripleOrder {
-    ghost less = { tripleLess };
-
-    fn below(&self, other: &Triple) -> bool {
-        *self < *other
-    }
 }

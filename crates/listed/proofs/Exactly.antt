@@ -15,13 +15,14 @@ use Rattle.std.specs.declared.result.Result.the-variants.{Ok, Err}
 use Rattle.wordlist.specs.declared.faults.RecordFault.{RecordFault}
 use Rattle.wordlist.specs.Cutting.{bodyOf}
 use Rattle.wordlist.specs.Fields.{field, kindOf}
+use Rattle.wordlist.specs.Outcomes.{given, answered, replaced}
 use Rattle.wordlist.specs.Reading.{Answer, readOf}
 use Rattle.wordlist.specs.Spelling.{Passes, Adds}
 use Rattle.wordlist.proofs.Spelling.{read-spelled, read-ends}
 use Rattle.listed.specs.declared.floor.Floor.{Floor}
 use Rattle.listed.specs.Layouts.{Layout}
 use Rattle.listed.specs.Makes.{Make, GoodBody, GoodWords, Exact}
-use Rattle.listed.specs.Reading.{Turn, front, head, body, Progress, start, side, soundFloor, floorOf, owing, kindDue, soundAt, grown, takenAt, listRules, given, layoutFrom, answered, replaced}
+use Rattle.listed.specs.Reading.{Turn, front, head, body, Progress, start, side, soundFloor, floorOf, owing, kindDue, soundAt, grown, takenAt, listRules, layoutFrom}
 use Rattle.listed.specs.Spelling.{floorWord, spelled}
 
 floor-word : (w : ℕ) → kindOf w ≡ 1 → field 18 10 w ≡ 0 → floorWord (floorOf w) ≡ w
@@ -90,7 +91,7 @@ module _ {P : Type 0} (m : Make P) where
     at-end head l e = refl
     at-end (body h ws n) l e = absurd (let z : _≡_ {A = ℕ} 0 1 = cc in omega arith)
 
-    from : (r : Progress P × Answer) (ws : List ℕ) (l : Layout P) → readOf (listRules m) start ws ≡ r → given m r ≡ Ok l → spelled m l ≡ ws
+    from : (r : Progress P × Answer) (ws : List ℕ) (l : Layout P) → readOf (listRules m) start ws ≡ r → given (λ s. s .layout) r ≡ Ok l → spelled m l ≡ ws
     from (s, Err f) ws l e g = absurd (let z : _≡_ {A = ℕ} 0 1 = cc in omega arith)
     from (s, Ok u) ws l e g =
         let same : s .layout ≡ l = cc in

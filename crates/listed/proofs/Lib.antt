@@ -3,4 +3,3 @@ pub mod Blanks
 pub mod Heads
 pub mod Exactly
 pub mod Found
-pub mod Givings

@@ -5,12 +5,12 @@ use Prim.Native.Nat.{ℕ, _-_}
 use lib.Dec.{eqb, leb, ltb}
 use lib.ListN.{length}
 use Rattle.std.specs.declared.result.Result.{Result}
-use Rattle.std.specs.declared.result.Result.the-variants.{Ok, Err}
 use Rattle.plan.specs.Hall.{Hall, most-places, most-side}
 use Rattle.wordlist.specs.declared.faults.RecordFault.{RecordFault}
 use Rattle.wordlist.specs.Cutting.{bodyOf}
 use Rattle.wordlist.specs.Fields.{field, kindOf}
-use Rattle.wordlist.specs.Reading.{Rules, Answer, readOf}
+use Rattle.wordlist.specs.Outcomes.{given, replaced}
+use Rattle.wordlist.specs.Reading.{Rules, readOf}
 use Rattle.listed.specs.declared.floor.Floor.{Floor}
 use Rattle.listed.specs.declared.draft.Next.{Next}
 use Rattle.listed.specs.declared.draft.Next.the-variants as next
@@ -91,24 +91,9 @@ module _ {P : Type 0} (m : Make P) where
     owes = λ s. owing (s .turn);
   }
 
-  -- what was read, if nothing was refused
-  abbrev pub given : Progress P × Answer → Result (Layout P) RecordFault
-  given (s, Ok u) = Ok (s .layout)
-  given (s, Err f) = Err f
-
   -- what a list says, or the first fault of it
   abbrev pub layoutFrom : List ℕ → Result (Layout P) RecordFault
-  layoutFrom ws = given (readOf listRules start ws)
-
--- the answer to a reading
-abbrev pub answered : {P : Type 0} → Result (Layout P) RecordFault → Answer
-answered (Ok l) = Ok tt
-answered (Err f) = Err f
-
--- what a plan says after a reading: refused words leave it as it was
-abbrev pub replaced : {P : Type 0} → Layout P → Result (Layout P) RecordFault → Layout P
-replaced old (Ok l) = l
-replaced old (Err f) = old
+  layoutFrom ws = given (λ s. s .layout) (readOf listRules start ws)
 
 -- what the program holds
 abbrev pub turnOf : Next → Turn

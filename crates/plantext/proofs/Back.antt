@@ -98,12 +98,19 @@ one-word w =
     ap wordsOf (before-whole 35 (digitsOf 8 w) (lit< tt) (digits-clear 8 w))
     ∙ ap filled (parts-whole 32 (digitChar (w / 16 ^ 7 % 16)) (digitsOf 7 w) (lit< tt) (digits-clear 8 w))
 
+other-length : (w : ℕ) (name : List ℕ) → length name < 8 → sameBytes (digitsOf 8 w) name ≡ false
+other-length w name lt =
+    ⊎-elim
+    (λ same. absurd (let e : 8 ≡ length name = ap length (sameBytes-decides (digitsOf 8 w) name .0 same) in omega arith))
+    (λ other. other)
+    (cases-bool (sameBytes (digitsOf 8 w) name))
+
 unnamed : (w : ℕ) → named (digitsOf 8 w) ≡ None
 unnamed w =
-    cond-false _ _ _ (⊎-elim
-    (λ same. absurd (let e : 8 ≡ 5 = ap length (sameBytes-decides (digitsOf 8 w) (codes "drawn") .0 same) in omega arith))
-    (λ other. other)
-    (cases-bool (sameBytes (digitsOf 8 w) (codes "drawn"))))
+    cond-false _ _ _ (other-length w (codes "drawn") (lit< tt))
+    ∙ cond-false _ _ _ (other-length w (codes "cells") (lit< tt))
+    ∙ cond-false _ _ _ (other-length w (codes "zones") (lit< tt))
+    ∙ cond-false _ _ _ (other-length w (codes "policy") (lit< tt))
 
 -- so a line of them adds the word
 line-read : (w : ℕ) (vs : List ℕ) → w < 2 ^ 32 → lineTaken (wordsOf (said (digitsOf 8 w))) (drawing vs) ≡ Ok (drawing (vs ++ w ∷ []))

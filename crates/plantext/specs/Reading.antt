@@ -1,25 +1,28 @@
 -- How a text is read: line by line, and in a line word by word, up to the first fault.
-use mathlib.Core.Bool.{cond}
+use mathlib.Core.Bool.{Bool, true, false, cond, not, _&&_}
 use mathlib.Core.List.{List, [], _∷_, _++_}
-use Prim.Native.Nat.{ℕ, _+_}
+use Prim.Native.Nat.{ℕ, _+_, _-_}
 use lib.Chars.{codes}
 use lib.Dec.{eqb, leb}
 use lib.ListN.{length}
+use Rattle.std.specs.shelf.Lists.{between}
 use Rattle.std.specs.shelf.Text.{sameBytes}
+use Rattle.std.specs.Finite.{nth}
+use Rattle.std.specs.Options.{mapped}
 use Rattle.std.specs.Of.Vec.{vec-items, vec-cap}
 use Rattle.std.specs.declared.option.Option.{Option}
 use Rattle.std.specs.declared.option.Option.the-variants.{Some, None}
 use Rattle.std.specs.declared.result.Result.{Result}
 use Rattle.std.specs.declared.result.Result.the-variants.{Ok, Err}
 use Rattle.plantext.specs.declared.faults.Reason.{Reason}
-use Rattle.plantext.specs.declared.faults.Reason.the-variants.{NoSection, SecondSection, MissingSection, NoRoom}
+use Rattle.plantext.specs.declared.faults.Reason.the-variants.{NoSection, SectionOutOfPlace, MissingSection, NoRoom}
 use Rattle.plantext.specs.declared.faults.TextFault.{TextFault}
 use Rattle.plantext.specs.declared.page.Heading.{Heading}
-use Rattle.plantext.specs.declared.page.Heading.the-variants.{Drawn}
+use Rattle.plantext.specs.declared.page.Heading.the-variants.{Drawn, Cells, Zones, Policy}
 use Rattle.plantext.specs.declared.page.Section.{Section}
 use Rattle.plantext.specs.declared.page.Page.{Page}
 use Rattle.plantext.specs.Parts.{linesOf, said, wordsOf}
-use Rattle.plantext.specs.Digits.{hexOf}
+use Rattle.plantext.specs.Digits.{within, hexOf}
 
 -- what was read: the sections in order, and the words of all of them
 pub record Content : Type 0 where
@@ -40,7 +43,28 @@ roomOf p = vec-cap (p .words)
 
 -- the section that a word names
 abbrev pub named : List ℕ → Option Heading
-named w = cond (sameBytes w (codes "drawn")) (Some Drawn) None
+named w =
+    cond (sameBytes w (codes "drawn")) (Some Drawn)
+    (cond (sameBytes w (codes "cells")) (Some Cells)
+    (cond (sameBytes w (codes "zones")) (Some Zones)
+    (cond (sameBytes w (codes "policy")) (Some Policy) None)))
+
+-- the heading of section k, if there is one
+abbrev pub headingAt : ℕ → Content → Option Heading
+headingAt k c = mapped (λ s. s .heading) (nth (c .sections) k)
+
+-- where a section starts among n words, or their end where there is none
+abbrev pub startIn : ℕ → Option Section → ℕ
+startIn n (Some s) = s .first
+startIn n None = n
+
+-- where section k starts among the words, or their end where there is none
+abbrev pub startAt : ℕ → Content → ℕ
+startAt k c = startIn (length (c .words)) (nth (c .sections) k)
+
+-- the words of section k: from its start up to the next one's
+abbrev pub wordsAt : ℕ → Content → List ℕ
+wordsAt k c = between (startAt k c) (startAt (k + 1) c) (c .words)
 
 -- a line is a section line if its only word is a name
 abbrev pub headingOf : List (List ℕ) → Option Heading
@@ -65,9 +89,28 @@ withSection h c = record { sections = c .sections ++ record { heading = h; first
 abbrev pub withWord : ℕ → Content → Content
 withWord n c = record { sections = c .sections; words = c .words ++ n ∷ [] }
 
--- a section line opens a section, and there is no second
+-- whether there is a heading and it is that of a policy
+abbrev pub isPolicy : Option Heading → Bool
+isPolicy None = false
+isPolicy (Some Drawn) = false
+isPolicy (Some Cells) = false
+isPolicy (Some Zones) = false
+isPolicy (Some Policy) = true
+
+-- whether the last section is a policy
+abbrev pub ruled : Content → Bool
+ruled c = isPolicy (headingAt (length (c .sections) - 1) c)
+
+-- whether a section may open now: a plan as the first, zones after it up to twice, a policy once and as the last
+abbrev pub mayOpen : Heading → Content → Bool
+mayOpen Drawn c = eqb (length (c .sections)) 0
+mayOpen Cells c = eqb (length (c .sections)) 0
+mayOpen Zones c = within 1 2 (length (c .sections)) && not (ruled c)
+mayOpen Policy c = within 1 3 (length (c .sections)) && not (ruled c)
+
+-- a section line opens its section in its place
 abbrev pub opened : Heading → Content → Result Content Reason
-opened h c = unopened c (Ok (withSection h c)) (Err SecondSection)
+opened h c = cond (mayOpen h c) (Ok (withSection h c)) (Err SectionOutOfPlace)
 
 -- a word belongs to the open section
 abbrev pub wordTaken : List ℕ → Content → Result Content Reason

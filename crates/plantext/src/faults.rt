@@ -7,8 +7,8 @@ ghost use Rattle.plantext.specs.Reasons.{spoken};
 pub enum Reason {
     /// A word stands before any section line.
     NoSection,
-    /// The section is there already.
-    SecondSection,
+    /// A section line stands where its section may not open.
+    SectionOutOfPlace,
     /// A byte of a word is no hexadecimal digit.
     BadDigit,
     /// A word has more than eight bytes.
@@ -33,7 +33,7 @@ impl Reason {
     {
         match self {
             Reason::NoSection => "no section is open",
-            Reason::SecondSection => "second section",
+            Reason::SectionOutOfPlace => "section out of place",
             Reason::BadDigit => "bad digit",
             Reason::LongWord => "word too long",
             Reason::MissingSection => "missing section",

@@ -9,6 +9,9 @@ pub mod reading;
 #[derive(Clone, Copy)]
 pub enum Heading {
     Drawn,
+    Cells,
+    Zones,
+    Policy,
 }
 
 /// A section: its words are those from `first` on, up to the next section's first.
@@ -23,5 +26,5 @@ pub struct Section {
 pub struct Page {
     sections: Vec<Section>,
     words: Vec<u32>,
-    ghost most: { 1 ≤ vec-cap sections },
+    ghost most: { 4 ≤ vec-cap sections },
 }

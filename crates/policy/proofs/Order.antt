@@ -7,7 +7,8 @@ use native.Mathlib.Omega.{arith}
 use lib.Dec.{eqb, leb, ltb}
 use lib.ListN.{length}
 use Rattle.std.proofs.shelf.Lists.{nil-from-length}
-use Rattle.std.proofs.shelf.Tests.{and-parts, eqb-true, ltb-false}
+use borrow.Author.Tests.{leb-true}
+use Rattle.std.proofs.shelf.Tests.{and-parts, both-ways, eqb-true, ltb-false, le-leb}
 use Rattle.wordlist.specs.Fields.{kindOf}
 use Rattle.policy.specs.Contents.{Content}
 use Rattle.policy.specs.Rules.{turnAs, risesAs, leastKind, some}
@@ -80,3 +81,56 @@ module _ (c : Content) (w : ℕ) where
   -- a word that is no record stands in front
   pub front-of : turnAs (kindOf w) c w ≡ true → (kindOf w ≡ 8 → ⊥) → (kindOf w ≡ 9 → ⊥) → (kindOf w ≡ 10 → ⊥) → (kindOf w ≡ 11 → ⊥) → (kindOf w ≡ 12 → ⊥) → (kindOf w ≡ 13 → ⊥) → (c .badges ≡ 0) × (kindOf w ≡ 7)
   front-of e = front-from (kindOf w) (turned (kindOf w) e)
+
+-- where the least kind that may stand is n or lower, no record is of a kind above n
+least-12 : (a q s r p : Bool) → leb (cond a 13 (cond q 12 (cond s 11 (cond r 10 (cond p 9 8))))) 12 ≡ true → a ≡ false
+least-12 true q s r p h = absurd (both-ways false refl h)
+least-12 false q s r p h = refl
+
+least-11 : (a q s r p : Bool) → leb (cond a 13 (cond q 12 (cond s 11 (cond r 10 (cond p 9 8))))) 11 ≡ true → q ≡ false
+least-11 true q s r p h = absurd (both-ways false refl h)
+least-11 false true s r p h = absurd (both-ways false refl h)
+least-11 false false s r p h = refl
+
+least-10 : (a q s r p : Bool) → leb (cond a 13 (cond q 12 (cond s 11 (cond r 10 (cond p 9 8))))) 10 ≡ true → s ≡ false
+least-10 true q s r p h = absurd (both-ways false refl h)
+least-10 false true s r p h = absurd (both-ways false refl h)
+least-10 false false true r p h = absurd (both-ways false refl h)
+least-10 false false false r p h = refl
+
+least-9 : (a q s r p : Bool) → leb (cond a 13 (cond q 12 (cond s 11 (cond r 10 (cond p 9 8))))) 9 ≡ true → r ≡ false
+least-9 true q s r p h = absurd (both-ways false refl h)
+least-9 false true s r p h = absurd (both-ways false refl h)
+least-9 false false true r p h = absurd (both-ways false refl h)
+least-9 false false false true p h = absurd (both-ways false refl h)
+least-9 false false false false p h = refl
+
+least-8 : (a q s r p : Bool) → leb (cond a 13 (cond q 12 (cond s 11 (cond r 10 (cond p 9 8))))) 8 ≡ true → p ≡ false
+least-8 true q s r p h = absurd (both-ways false refl h)
+least-8 false true s r p h = absurd (both-ways false refl h)
+least-8 false false true r p h = absurd (both-ways false refl h)
+least-8 false false false true p h = absurd (both-ways false refl h)
+least-8 false false false false true h = absurd (both-ways false refl h)
+least-8 false false false false false h = refl
+
+no-some : {R : Type 0} (xs : List R) → some xs ≡ false → xs ≡ []
+no-some xs e = nil-from-length xs (let l = ltb-false 0 (length xs) e in omega arith)
+
+pub higher : (n m k : ℕ) → m ≤ k → leb n m ≡ true → leb n k ≡ true
+higher n m k le e = le-leb n k (let l = leb-true n m e in omega arith)
+
+module _ (c : Content) where
+  pub no-assignments : leb (leastKind c) 12 ≡ true → c .assignments ≡ []
+  no-assignments e = no-some (c .assignments) (least-12 (some (c .assignments)) (some (c .rolePermissions)) (some (c .schemaPermissions)) (some (c .roles)) (some (c .parents)) e)
+
+  pub no-role-permissions : leb (leastKind c) 11 ≡ true → c .rolePermissions ≡ []
+  no-role-permissions e = no-some (c .rolePermissions) (least-11 (some (c .assignments)) (some (c .rolePermissions)) (some (c .schemaPermissions)) (some (c .roles)) (some (c .parents)) e)
+
+  pub no-schema-permissions : leb (leastKind c) 10 ≡ true → c .schemaPermissions ≡ []
+  no-schema-permissions e = no-some (c .schemaPermissions) (least-10 (some (c .assignments)) (some (c .rolePermissions)) (some (c .schemaPermissions)) (some (c .roles)) (some (c .parents)) e)
+
+  pub no-roles : leb (leastKind c) 9 ≡ true → c .roles ≡ []
+  no-roles e = no-some (c .roles) (least-9 (some (c .assignments)) (some (c .rolePermissions)) (some (c .schemaPermissions)) (some (c .roles)) (some (c .parents)) e)
+
+  pub no-parents : leb (leastKind c) 8 ≡ true → c .parents ≡ []
+  no-parents e = no-some (c .parents) (least-8 (some (c .assignments)) (some (c .rolePermissions)) (some (c .schemaPermissions)) (some (c .roles)) (some (c .parents)) e)

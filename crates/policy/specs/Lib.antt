@@ -3,3 +3,5 @@ pub mod Contents
 pub mod Rules
 pub mod Reading
 pub mod Spelling
+pub mod Policies
+pub mod Worked

@@ -2,3 +2,4 @@
 
 pub mod charter;
 pub mod policy;
+pub mod worked;

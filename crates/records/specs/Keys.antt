@@ -1,6 +1,6 @@
 -- The keys of the records: the named fields, the one in the highest bits first.
-use Rattle.keyed.specs.declared.keys.Pair.{Pair}
-use Rattle.keyed.specs.declared.keys.Triple.{Triple}
+use Rattle.keyed.specs.declared.pair.Pair.{Pair}
+use Rattle.keyed.specs.declared.triple.Triple.{Triple}
 use Rattle.records.specs.declared.kinds.Parent.{Parent}
 use Rattle.records.specs.declared.kinds.Role.{Role}
 use Rattle.records.specs.declared.kinds.SchemaPermission.{SchemaPermission}

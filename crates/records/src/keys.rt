@@ -7,10 +7,10 @@ use super::kinds::RolePermission;
 use super::kinds::SchemaPermission;
 use keyed::keys::KeyOrder;
 use keyed::keys::Keyed;
-use keyed::keys::Pair;
-use keyed::keys::PairOrder;
-use keyed::keys::Triple;
-use keyed::keys::TripleOrder;
+use keyed::pair::Pair;
+use keyed::pair::PairOrder;
+use keyed::triple::Triple;
+use keyed::triple::TripleOrder;
 ghost use Rattle.records.specs.Keys.{assignmentKey, parentKey, roleKey, rolePermissionKey, schemaPermissionKey};
 
 pub impl Keyed for Parent as ParentKeyed {

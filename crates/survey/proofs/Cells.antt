@@ -1,21 +1,24 @@
 -- Entries that a loop changes one after another, and the steps of the pass over the floor.
 use mathlib.Core.Bool.{Bool, true, false, cond, not, _&&_, _||_}
-use mathlib.Core.List.{List}
+use mathlib.Core.List.{List, map}
 use mathlib.Core.Logic.{⊎-elim}
-use mathlib.Core.Path.{_≡_, refl, sym, _∙_, ap}
-use Prim.Native.Nat.{ℕ, zero, suc, _+_, _<_, _≤_}
+use mathlib.Core.Path.{_≡_, refl, sym, _∙_, ap, subst}
+use Prim.Native.Nat.{ℕ, zero, suc, _+_, _^_, _<_, _≤_}
 use native.Mathlib.Numerals.{add-one}
 use native.Mathlib.Omega.{arith}
 use lib.Dec.{ltb}
-use lib.ListN.{length, length-replicate, getD, set, replicate}
+use lib.ListN.{length, length-replicate, length-set, getD, set, replicate}
 use lib.Seq.{getD-set-same, getD-set-other}
+use Rattle.std.specs.Iters.{counting}
+use Rattle.std.proofs.shelf.Counted.{fill-by-all}
 use Rattle.std.proofs.shelf.Lists.{getD-replicate, getD-past}
 use Rattle.std.proofs.shelf.Tests.{lt-ltb, le-ltb, cases-eq, cases-lt}
 use Rattle.sets.specs.Bounds.{every, some}
 use Rattle.sets.specs.declared.Set64.{Set64}
 use Rattle.sets.specs.Member.{member}
 use Rattle.sets.proofs.Bits.{member-past}
-use Rattle.survey.specs.Entries.{cell, Changed}
+use Rattle.sets.proofs.Words.{word-from}
+use Rattle.survey.specs.Entries.{cell, setOf, Whole, Changed}
 
 pub changed-none : (f : ℕ → ℕ → Bool → Bool) (xs : List Set64) → Changed f 0 xs xs
 changed-none f xs i j = sym (ap (λ (b : Bool). cond b (f i j (cell xs i j)) (cell xs i j)) (le-ltb i 0 (omega arith)))
@@ -55,6 +58,36 @@ cell-none n s i j none =
     (λ (l : i < n). cell-replicate n s i j l ∙ none j)
     (λ (l : n ≤ i). let m : length (replicate n s) ≤ i = simp length-replicate l in cell-past (replicate n s) i j m)
     (cases-lt i n)
+
+-- entries stay whole as one of them is set
+pub whole-set : (rows : List Set64) (k : ℕ) (v : Set64) → k < length rows → v .bits < 2 ^ 64 → Whole rows → Whole (set rows k v)
+whole-set rows k v l fits whole = (simp length-set (whole .0), each)
+  where
+    each : (i : ℕ) → getD (set rows k v) i (record { bits = 0 }) .bits < 2 ^ 64
+    each i =
+        ⊎-elim
+        (λ (same : i ≡ k). subst (λ (s : Set64). s .bits < 2 ^ 64) (sym (ap (λ (n : ℕ). getD (set rows k v) n (record { bits = 0 })) same ∙ getD-set-same rows k v (record { bits = 0 }) l)) fits)
+        (λ (other : i ≡ k → ⊥). subst (λ (s : Set64). s .bits < 2 ^ 64) (sym (getD-set-other rows k i v (record { bits = 0 }) other)) (whole .1 i))
+        (cases-eq i k)
+
+pub whole-replicate : (s : Set64) → s .bits < 2 ^ 64 → Whole (replicate 64 s)
+whole-replicate s fits = (simp length-replicate, each)
+  where
+    each : (i : ℕ) → getD (replicate 64 s) i (record { bits = 0 }) .bits < 2 ^ 64
+    each i =
+        ⊎-elim
+        (λ (l : i < 64). subst (λ (t : Set64). t .bits < 2 ^ 64) (sym (getD-replicate 64 i s (record { bits = 0 }) l)) fits)
+        (λ (l : 64 ≤ i). let m : length (replicate 64 s) ≤ i = simp length-replicate l in subst (λ (t : Set64). t .bits < 2 ^ 64) (sym (getD-past (replicate 64 s) i (record { bits = 0 }) m)) (omega arith))
+        (cases-lt i 64)
+
+-- whole entries are known by their numbers
+pub rows-from : (rows : List Set64) (f : ℕ → ℕ → Bool) → Whole rows → ((i j : ℕ) → i < 64 → j < 64 → cell rows i j ≡ f i j) → rows ≡ map (λ i. setOf (f i)) (counting 0 64)
+rows-from rows f whole cells =
+    fill-by-all (λ i. setOf (f i)) rows 64 (record { bits = 0 }) (whole .0)
+    (λ i l. ap set-from (word-from 64 (getD rows i (record { bits = 0 }) .bits) (f i) (whole .1 i) (λ j m. cells i j l m)))
+  where
+    set-from : ℕ → Set64
+    set-from n = record { bits = n }
 
 every-more : (n : ℕ) (p : ℕ → Bool) → every (n + 1) p ≡ (p n && every n p)
 every-more n p = rw add-one

@@ -9,6 +9,7 @@ use lib.Dec.{ltb, eqb}
 use lib.ListN.{length, getD}
 use Rattle.std.specs.declared.option.Option.{Option}
 use Rattle.std.specs.declared.option.Option.the-variants.{Some, None}
+use Rattle.std.proofs.shelf.Counted.{fill-by-all}
 use Rattle.std.proofs.shelf.Tests.{lt-ltb, le-ltb, cases-bool, cases-lt}
 use Rattle.sets.specs.Bounds.{every, some}
 use Rattle.sets.specs.declared.Set64.{Set64}
@@ -16,8 +17,9 @@ use Rattle.sets.proofs.Bounds.{some-same, every-same}
 use Rattle.plan.specs.Hall.{Hall, nowhere, typeAt, coversAt}
 use Rattle.plan.specs.Lying.{hasPoint, liesIn, shares as meets, ofType, liesInSome, typeLies}
 use Rattle.survey.specs.declared.Survey.{Survey}
-use Rattle.survey.specs.Entries.{cell}
-use Rattle.survey.specs.Kept.{Tied, isType, keptOf, keptHolds, keptLies, keptLiesInSome, keptFits, keptTypeLies}
+use Rattle.survey.specs.Entries.{cell, Whole}
+use Rattle.survey.specs.Kept.{Tied, surveyOf, isType, keptOf, keptHolds, keptLies, keptLiesInSome, keptFits, keptTypeLies}
+use Rattle.survey.proofs.Cells.{rows-from}
 use Rattle.survey.proofs.Types.{type-in-use, type-past}
 use Rattle.survey.proofs.Lying.{shares-itself, empty-lies, point-in-use, lies-in-use}
 
@@ -28,6 +30,10 @@ types-from h types i few low =
     (λ (l : i < 64). ap (λ (b : Bool). cond b (getD types i None) None) (lt-ltb i 64 l) ∙ low l)
     (λ (l : 64 ≤ i). ap (λ (b : Bool). cond b (getD types i None) None) (le-ltb i 64 l) ∙ sym (type-past h i (omega arith)))
     (cases-lt i 64)
+
+and-true : (b : Bool) → (b && true) ≡ b
+and-true true = refl
+and-true false = refl
 
 -- lying, from what is known of the numbers below 64
 lies-from : (h : Hall) (lies : List Set64) (i j : ℕ) (point : Bool) → length (h .places) ≤ 64 → point ≡ hasPoint h i → (i < 64 → cell lies i j ≡ (liesIn h i j && ltb j 64)) → (not point || cell lies i j) ≡ liesIn h i j
@@ -41,10 +47,6 @@ lies-from h lies i j point few e low =
     (cases-lt j 64))
     (λ (p : hasPoint h i ≡ false). ap (λ (b : Bool). not b || cell lies i j) p ∙ sym (empty-lies h i j p))
     (cases-bool (hasPoint h i))
-  where
-    and-true : (b : Bool) → (b && true) ≡ b
-    and-true true = refl
-    and-true false = refl
 
 -- parts that are right make a survey that is tied
 pub tied-from : (h : Hall) (s : Survey) → length (h .places) ≤ 64 → s .count ≡ length (h .places) → ((i : ℕ) → i < 64 → getD (s .types) i None ≡ typeAt h i)
@@ -56,6 +58,18 @@ tied-from h s few count types lies shares = record {
   lies = λ i j. lies-from h (s .lies) i j (cell (s .shares) i i) few (shares i i ∙ shares-itself h i) (lies i j);
   shares = shares;
 }
+
+-- and the survey is the one of the hall
+pub survey-from : (h : Hall) (s : Survey) → s .count ≡ length (h .places) → length (s .types) ≡ 64 → ((i : ℕ) → i < 64 → getD (s .types) i None ≡ typeAt h i)
+    → Whole (s .lies) → ((i j : ℕ) → i < 64 → cell (s .lies) i j ≡ (liesIn h i j && ltb j 64)) → Whole (s .shares) → ((i j : ℕ) → cell (s .shares) i j ≡ meets h i j) → s ≡ surveyOf h
+survey-from h s count full types whole-lies lies whole-shares shares =
+    rebuilt count (fill-by-all (typeAt h) (s .types) 64 None full types)
+    (rows-from (s .lies) (liesIn h) whole-lies (λ i j l m. lies i j l ∙ ap (λ (b : Bool). liesIn h i j && b) (lt-ltb j 64 m) ∙ and-true (liesIn h i j)))
+    (rows-from (s .shares) (meets h) whole-shares (λ i j l m. shares i j))
+  where
+    rebuilt : {n m : ℕ} {ts us : List (Option ℕ)} {ls ms ss rs : List Set64} → n ≡ m → ts ≡ us → ls ≡ ms → ss ≡ rs
+        → _≡_ {A = Survey} (record { count = n; types = ts; lies = ls; shares = ss }) (record { count = m; types = us; lies = ms; shares = rs })
+    rebuilt e f g k = cc
 
 -- what a tied survey tells of types
 module _ (h : Hall) (s : Survey) (tied : Tied h s) where

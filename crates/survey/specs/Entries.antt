@@ -4,7 +4,7 @@ use mathlib.Core.List.{List}
 use mathlib.Core.Path.{_≡_}
 use Prim.Native.Nat.{ℕ, _^_, _<_}
 use lib.Dec.{ltb}
-use lib.ListN.{getD}
+use lib.ListN.{length, getD}
 use Rattle.sets.specs.declared.Set64.{Set64}
 use Rattle.sets.specs.Member.{member, wordOf}
 use Rattle.plan.specs.Hall.{most-places}
@@ -13,9 +13,9 @@ use Rattle.plan.specs.Hall.{most-places}
 abbrev pub cell : List Set64 → ℕ → ℕ → Bool
 cell rows i j = member (getD rows i (record { bits = 0 }) .bits) j
 
--- each entry is a word of 64 bits
-abbrev pub Fits : List Set64 → Type 0
-Fits rows = (i : ℕ) → getD rows i (record { bits = 0 }) .bits < 2 ^ 64
+-- there are 64 entries, each a word of 64 bits
+abbrev pub Whole : List Set64 → Type 0
+Whole rows = (length rows ≡ most-places) × ((i : ℕ) → getD rows i (record { bits = 0 }) .bits < 2 ^ 64)
 
 -- the set of the numbers below 64 that pass
 abbrev pub setOf : (ℕ → Bool) → Set64

@@ -9,7 +9,7 @@ ghost use lib.ListN.{getD};
 ghost use Rattle.std.specs.declared.option.Option.the-variants.{None as Nothing};
 ghost use Rattle.sets.specs.Member.{member};
 ghost use Rattle.plan.specs.Hall.{most-places, typeAt};
-ghost use Rattle.survey.specs.Entries.{Changed, Fits, stillLies, nowShares};
+ghost use Rattle.survey.specs.Entries.{Changed, Whole, stillLies, nowShares};
 ghost use Rattle.survey.specs.Kept.{Tied, surveyOf};
 
 /// In which places `i` still lies, once a point is seen that the places of `at` cover.
@@ -33,7 +33,7 @@ fn note(lies: &mut [Set64; 64], shares: &mut [Set64; 64], count: usize, at: Set6
     requires { ⌜ count ≤ most-places ⌝ }
     ensures within { λ _. ⌜ Changed (stillLies (at .bits)) count (now (lies .entry)) (now (lies .exit)) ⌝ }
     ensures common { λ _. ⌜ Changed (nowShares (at .bits)) count (now (shares .entry)) (now (shares .exit)) ⌝ }
-    ensures fits { λ _. ⌜ (Fits (now (lies .entry)) → Fits (now (lies .exit))) ⌝ ∗ ⌜ (Fits (now (shares .entry)) → Fits (now (shares .exit))) ⌝ }
+    ensures whole { λ _. ⌜ (Whole (now (lies .entry)) → Whole (now (lies .exit))) × (Whole (now (shares .entry)) → Whole (now (shares .exit))) ⌝ }
 {
     for i in 0..count {
         lies[i] = narrowed(lies[i], at, i);

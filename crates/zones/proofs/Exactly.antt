@@ -14,6 +14,7 @@ use Rattle.std.specs.declared.result.Result.the-variants.{Ok, Err}
 use Rattle.plan.specs.Hall.{most-places}
 use Rattle.wordlist.specs.declared.faults.RecordFault.{RecordFault}
 use Rattle.wordlist.specs.Fields.{field, kindOf}
+use Rattle.wordlist.specs.Outcomes.{given, answered, replaced}
 use Rattle.wordlist.specs.Reading.{Answer, run, ended}
 use Rattle.wordlist.specs.Spelling.{Adds}
 use Rattle.wordlist.proofs.Spelling.{run-spelled}
@@ -21,7 +22,7 @@ use Rattle.zones.specs.declared.zone.Rule.the-variants.{Union, Intersection, D
 use Rattle.zones.specs.declared.zone.Zone.{Zone}
 use Rattle.zones.specs.Piles.{inUse}
 use Rattle.zones.specs.Words.{operatorOf, firstOf, secondOf, ruleOf, zoneOf, soundZone, ruleWord, zoneWord}
-use Rattle.zones.specs.Reading.{Progress, start, nextOf, zoneRules, given, zonesFrom, answered, replaced}
+use Rattle.zones.specs.Reading.{Progress, start, nextOf, zoneRules, zonesFrom}
 
 -- the operator o on the places a and b, where outside has no second place
 rule-word : (n o a b : ℕ) → o < 4 → cond (eqb o 3) (eqb b 0) (ltb b n) ≡ true → ruleWord (cond (eqb o 0) (Union a b) (cond (eqb o 1) (Intersection a b) (cond (eqb o 2) (Difference a b) (Outside a)))) ≡ b * 2 ^ 12 + a * 2 ^ 6 + o * 2 ^ 4
@@ -55,7 +56,7 @@ adds n s w o p =
     let more : s .below + length (s .zones ++ zoneOf w ∷ []) ≤ most-places = omega (arith, l, length-push (s .zones) (zoneOf w)) in
     (map-append zoneWord (s .zones) (zoneOf w ∷ []) ∙ ap (λ x. written s ++ x ∷ []) (zone-word (nextOf s) w (eqb-true (kindOf w) 6 (p .member)) (p .sound)), (o .0, more))
 
-from-run : (r : Progress × Answer) (n : ℕ) (ws : List ℕ) (zs : List Zone) → n ≤ most-places → run zoneRules (start n) 0 ws ≡ r → given (ended zoneRules (length ws) r) ≡ Ok zs → (map zoneWord zs ≡ ws) × (n + length zs ≤ most-places)
+from-run : (r : Progress × Answer) (n : ℕ) (ws : List ℕ) (zs : List Zone) → n ≤ most-places → run zoneRules (start n) 0 ws ≡ r → given (λ s. s .zones) (ended zoneRules (length ws) r) ≡ Ok zs → (map zoneWord zs ≡ ws) × (n + length zs ≤ most-places)
 from-run (s, Err f) n ws zs few e g = absurd (let z : _≡_ {A = ℕ} 0 1 = cc in omega arith)
 from-run (s, Ok u) n ws zs few e g =
     let same : s .zones ≡ zs = cc in

@@ -1,4 +1,3 @@
 -- The lemmas of this crate.
 pub mod Piles
-pub mod Givings
 pub mod Exactly

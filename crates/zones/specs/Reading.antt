@@ -6,12 +6,13 @@ use lib.Dec.{eqb, ltb}
 use lib.ListN.{length}
 use Rattle.std.specs.Of.Vec.{vec-items}
 use Rattle.std.specs.declared.result.Result.{Result}
-use Rattle.std.specs.declared.result.Result.the-variants.{Ok, Err}
-use Rattle.plan.specs.Hall.{most-places}
+use Rattle.plan.specs.Hall.{Hall, most-places}
 use Rattle.wordlist.specs.declared.faults.RecordFault.{RecordFault}
-use Rattle.wordlist.specs.Reading.{Rules, Answer, readOf}
+use Rattle.wordlist.specs.Outcomes.{given, replaced}
+use Rattle.wordlist.specs.Reading.{Rules, readOf}
 use Rattle.zones.specs.declared.zone.Zone.{Zone}
 use Rattle.zones.specs.declared.draft.Draft.{Draft}
+use Rattle.zones.specs.Piles.{zoneHall}
 use Rattle.zones.specs.Words.{soundZone, zoneOf}
 
 -- how many places are below, and the zones read so far
@@ -38,25 +39,14 @@ zoneRules = record {
   owes = λ s. false;
 }
 
--- the zones read, if nothing was refused
-abbrev pub given : Progress × Answer → Result (List Zone) RecordFault
-given (s, Ok u) = Ok (s .zones)
-given (s, Err f) = Err f
-
 -- the zones that a list says over n places, or the first fault of it
 abbrev pub zonesFrom : ℕ → List ℕ → Result (List Zone) RecordFault
-zonesFrom n ws = given (readOf zoneRules (start n) ws)
-
--- the answer to a reading
-abbrev pub answered : Result (List Zone) RecordFault → Answer
-answered (Ok zs) = Ok tt
-answered (Err f) = Err f
-
--- the zones after a reading: refused words leave the old ones
-abbrev pub replaced : List Zone → Result (List Zone) RecordFault → List Zone
-replaced old (Ok zs) = zs
-replaced old (Err f) = old
+zonesFrom n ws = given (λ s. s .zones) (readOf zoneRules (start n) ws)
 
 -- what the program holds
 abbrev pub progressOf : Draft → Progress
 progressOf d = record { below = d .below; zones = vec-items (d .zones) }
+
+-- what a plan with a list put over it means: refused words add no zone
+abbrev pub pileFrom : Hall → List ℕ → Hall
+pileFrom h ws = zoneHall h (replaced [] (zonesFrom (length (h .places)) ws))

@@ -11,10 +11,11 @@ use Rattle.zones.specs.declared.zone.Zone.{Zone}
 abbrev pub operatorOf : ℕ → ℕ
 operatorOf w = field 4 2 w
 
--- the numbers of the two places
+-- the number of the first place
 abbrev pub firstOf : ℕ → ℕ
 firstOf w = field 6 6 w
 
+-- the number of the second place
 abbrev pub secondOf : ℕ → ℕ
 secondOf w = field 12 6 w
 

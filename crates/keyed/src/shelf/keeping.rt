@@ -11,7 +11,7 @@ ghost use mathlib.Core.Path.{_≡_};
 ghost use mathlib.Core.Bool.{true};
 ghost use mathlib.Core.List.{[]};
 ghost use lib.Dec.{ltb};
-ghost use lib.ListN.{length};
+ghost use lib.ListN.{getD, length};
 ghost use Rattle.std.specs.Of.Vec.{vec-items};
 ghost use Rattle.std.specs.Vec.{made};
 ghost use Rattle.keyed.specs.Orders.{follows, has as hasKey, placed, rising};
@@ -43,14 +43,14 @@ impl<R: Drop, const MOST: usize> Shelf<R, MOST> {
     pub fn has_room(&self) -> bool
         ensures { λ r. ⌜ r ≡ ltb (length (vec-items (now (self .entry) .records))) MOST ⌝ }
     {
-        self.records.len() < MOST
+        self.len() < MOST
     }
 
     /// Puts a record after the others; one that does not fit changes nothing.
     pub fn put(&mut self, record: R)
         ensures { λ _. ⌜ vec-items (now (self .exit) .records) ≡ placed MOST (vec-items (now (self .entry) .records)) «record» ⌝ }
     {
-        if self.records.len() < MOST {
+        if self.has_room() {
             self.records.push_reserved(record);
         }
     }
@@ -60,6 +60,19 @@ impl<R: Drop, const MOST: usize> Shelf<R, MOST> {
         ensures { λ _. ⌜ vec-items (now (self .exit) .records) ≡ [] ⌝ }
     {
         self.records.clear();
+    }
+}
+
+impl<R: Copy + Drop, const MOST: usize> Shelf<R, MOST> {
+    /// Record `k`, or the other one if there are no more than `k` records.
+    pub fn at_or(&self, k: usize, other: R) -> R
+        ensures { λ r. ⌜ r ≡ getD (vec-items (now (self .entry) .records)) k other ⌝ }
+    {
+        if k < self.len() {
+            self.records[k]
+        } else {
+            other
+        }
     }
 }
 

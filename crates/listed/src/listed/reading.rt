@@ -13,7 +13,8 @@ ghost use mathlib.Core.Path.{_≡_};
 ghost use Rattle.std.specs.Vec.{made};
 ghost use Rattle.std.specs.declared.result.Result.the-variants.{Ok};
 ghost use Rattle.listed.specs.Layouts.{blank, layoutOf};
-ghost use Rattle.listed.specs.Reading.{answered, layoutFrom, progressOf, replaced, start};
+ghost use Rattle.wordlist.specs.Outcomes.{answered, replaced};
+ghost use Rattle.listed.specs.Reading.{layoutFrom, progressOf, start};
 ghost use Rattle.listed.specs.Spelling.{spelled};
 
 impl<S: Shape + Drop> Listed<S> {

@@ -14,11 +14,12 @@ ghost use mathlib.Core.Path.{_≡_};
 ghost use mathlib.Core.List.{List};
 ghost use Prim.Native.Nat.{ℕ, _+_, _≤_, _<_};
 ghost use lib.ListN.{length};
+ghost use Rattle.std.specs.Finite.{nth};
 ghost use Rattle.std.specs.Vec.{made};
 ghost use Rattle.std.specs.Of.Vec.{vec-len, vec-cap};
 ghost use Rattle.std.specs.declared.result.Result.the-variants.{Ok};
 ghost use Rattle.plantext.specs.Parts.{linesOf, wordsOf};
-ghost use Rattle.plantext.specs.Reading.{blank, contentOf, roomOf, named, headingOf, opened, wordTaken, wordsTaken, lineTaken, linesTaken, readOf, answered, giving};
+ghost use Rattle.plantext.specs.Reading.{blank, contentOf, roomOf, named, headingOf, headingAt, startAt, wordsAt, ruled, mayOpen, opened, wordTaken, wordsTaken, lineTaken, linesTaken, readOf, answered, giving};
 ghost use Rattle.plantext.specs.Worked.{Worked};
 ghost use Rattle.plantext.specs.Writing.{written, Words, drawing};
 
@@ -29,6 +30,15 @@ impl Heading {
     {
         if word == b"drawn" {
             return Some(Heading::Drawn);
+        }
+        if word == b"cells" {
+            return Some(Heading::Cells);
+        }
+        if word == b"zones" {
+            return Some(Heading::Zones);
+        }
+        if word == b"policy" {
+            return Some(Heading::Policy);
         }
         None
     }
@@ -50,23 +60,50 @@ impl Page {
     pub fn with_room(heap: Global, room: usize) -> Result<Page, AllocError>
         ensures { λ r. ⌜ made r (λ p. (contentOf p ≡ blank) × (room ≤ roomOf p)) ⌝ }
     {
-        let sections = Vec::with_capacity(heap, 1)?;
+        let sections = Vec::with_capacity(heap, 4)?;
         let words = Vec::with_capacity(heap, room)?;
         Ok(Page { sections, words })
     }
 
-    /// The sections in order.
-    pub fn sections(&self) -> &[Section]
-        ensures { λ r. ⌜ now r ≡ contentOf (now (self .entry)) .sections ⌝ }
+    fn section(&self, k: usize) -> Option<Section>
+        ensures { λ r. ⌜ r ≡ nth (contentOf (now (self .entry)) .sections) k ⌝ }
     {
-        &self.sections
+        match self.sections.get(k) {
+            Some(section) => Some(*section),
+            None => None,
+        }
     }
 
-    /// The words of all sections.
-    pub fn words(&self) -> &[u32]
-        ensures { λ r. ⌜ now r ≡ contentOf (now (self .entry)) .words ⌝ }
+    /// The heading of section `k`, if there is one.
+    pub fn heading(&self, k: usize) -> Option<Heading>
+        ensures { λ r. ⌜ r ≡ headingAt k (contentOf (now (self .entry))) ⌝ }
     {
-        &self.words
+        match self.section(k) {
+            Some(section) => Some(section.heading),
+            None => None,
+        }
+    }
+
+    /// Where section `k` starts among the words, or their end where there is none.
+    fn start(&self, k: usize) -> usize
+        ensures { λ r. ⌜ r ≡ startAt k (contentOf (now (self .entry))) ⌝ }
+    {
+        match self.section(k) {
+            Some(section) => section.first,
+            None => self.words.len(),
+        }
+    }
+
+    /// The words of section `k`, none where there is no such section.
+    pub fn words_of(&self, k: usize) -> &[u32]
+        ensures { λ r. ⌜ now r ≡ wordsAt k (contentOf (now (self .entry))) ⌝ }
+    {
+        if k >= self.sections.len() {
+            return &[];
+        }
+        let end = self.start(k + 1).min(self.words.len());
+        let start = self.start(k).min(end);
+        &self.words[start..end]
     }
 
     fn clear(&mut self)
@@ -78,13 +115,33 @@ impl Page {
         self.words.clear();
     }
 
+    /// Whether the last section is a policy.
+    fn ruled(&self) -> bool
+        ensures { λ r. ⌜ r ≡ ruled (contentOf (now (self .entry))) ⌝ }
+    {
+        let last = self.sections.len().saturating_sub(1);
+        matches!(self.heading(last), Some(Heading::Policy))
+    }
+
+    /// Whether a section with this heading may open after those that are there.
+    fn may_open(&self, heading: Heading) -> bool
+        ensures { λ r. ⌜ r ≡ mayOpen heading (contentOf (now (self .entry))) ⌝ }
+    {
+        let count = self.sections.len();
+        match heading {
+            Heading::Drawn | Heading::Cells => count == 0,
+            Heading::Zones => 1 <= count && count <= 2 && !self.ruled(),
+            Heading::Policy => 1 <= count && count <= 3 && !self.ruled(),
+        }
+    }
+
     fn open(&mut self, heading: Heading) -> Result<(), Reason>
         ensures content { λ r. ⌜ giving r (contentOf (now (self .exit))) ≡ opened heading (contentOf (now (self .entry))) ⌝ }
         ensures len { λ _. ⌜ vec-len (now (self .exit) .words) ≡ vec-len (now (self .entry) .words) ⌝ }
         ensures room { λ _. ⌜ roomOf (now (self .exit)) ≡ roomOf (now (self .entry)) ⌝ }
     {
-        if !self.sections.is_empty() {
-            return Err(Reason::SecondSection);
+        if !self.may_open(heading) {
+            return Err(Reason::SectionOutOfPlace);
         }
         let first = self.words.len();
         self.sections.push_reserved(Section { heading, first });

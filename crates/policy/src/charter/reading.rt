@@ -1,8 +1,8 @@
 //! How a list is read into a charter.
 
 use super::Charter;
-use keyed::keys::PairOrder;
-use keyed::keys::TripleOrder;
+use keyed::pair::PairOrder;
+use keyed::triple::TripleOrder;
 use keyed::shelf::Shelf;
 use records::badges::badges_of;
 use records::badges::sound_badges;

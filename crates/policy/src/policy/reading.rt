@@ -12,13 +12,14 @@ ghost use mathlib.Core.Path.{_≡_};
 ghost use Rattle.std.specs.Vec.{made};
 ghost use Rattle.std.specs.declared.result.Result.the-variants.{Ok};
 ghost use Rattle.policy.specs.Contents.{contentOf, none};
+ghost use Rattle.policy.specs.Policies.{says};
 ghost use Rattle.policy.specs.Reading.{answered, contentFrom, replaced};
 ghost use Rattle.policy.specs.Spelling.{spelled};
 
 impl Policy {
     /// No badges and no records. All the memory that the policy will use is taken here.
     pub fn new(heap: Global) -> Result<Policy, AllocError>
-        ensures { λ r. ⌜ made r (λ p. (contentOf (p .kept) ≡ none) × (contentOf (p .draft) ≡ none)) ⌝ }
+        ensures { λ r. ⌜ made r (λ p. (says p ≡ none) × (contentOf (p .draft) ≡ none)) ⌝ }
     {
         let kept = Charter::new(heap)?;
         let draft = Charter::new(heap)?;
@@ -28,9 +29,9 @@ impl Policy {
     /// Becomes what the words say; refused words leave it as it was.
     pub fn read(&mut self, words: &[u32]) -> Result<(), RecordFault>
         ensures answer { λ r. ⌜ r ≡ answered (contentFrom (now (words .entry))) ⌝ }
-        ensures after { λ _. ⌜ contentOf (now (self .exit) .kept) ≡ replaced (contentOf (now (self .entry) .kept)) (contentFrom (now (words .entry))) ⌝ }
+        ensures after { λ _. ⌜ says (now (self .exit)) ≡ replaced (says (now (self .entry))) (contentFrom (now (words .entry))) ⌝ }
         ensures draft { λ _. ⌜ contentOf (now (self .exit) .draft) ≡ none ⌝ }
-        ensures exactly { λ r. ⌜ (r ≡ Ok tt → spelled (contentOf (now (self .exit) .kept)) ≡ now (words .entry)) ⌝ }
+        ensures exactly { λ r. ⌜ (r ≡ Ok tt → spelled (says (now (self .exit))) ≡ now (words .entry)) ⌝ }
     {
         self.draft.clear();
         let answer = read(&mut self.draft, words);

@@ -13,7 +13,8 @@ ghost use lib.ListN.{length};
 ghost use Rattle.std.specs.Of.Vec.{vec-items};
 ghost use Rattle.std.specs.declared.result.Result.the-variants.{Ok, Err};
 ghost use Rattle.zones.specs.Piles.{inUse};
-ghost use Rattle.zones.specs.Reading.{answered, progressOf, replaced, start, zonesFrom};
+ghost use Rattle.wordlist.specs.Outcomes.{answered, replaced};
+ghost use Rattle.zones.specs.Reading.{progressOf, start, zonesFrom};
 ghost use Rattle.zones.specs.Words.{zoneWord};
 
 impl<P: Plan> Zones<P> {

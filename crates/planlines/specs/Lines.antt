@@ -12,6 +12,9 @@ use Rattle.wordlist.specs.declared.faults.Told.{Told}
 abbrev pub planLine : Hall → List ℕ
 planLine h = codes "plan ok " ++ (decimal (h .width) ++ (codes " " ++ (decimal (h .height) ++ (codes " " ++ decimal (length (h .places))))))
 
+abbrev pub zonesLine : Hall → List ℕ
+zonesLine h = codes "zones ok " ++ decimal (length (h .places))
+
 abbrev pub placeLine : Hall → ℕ → List ℕ
 placeLine h k = codes "place " ++ (decimal k ++ (codes " type " ++ (decimal (valueOr (typeAt h k) 0) ++ (codes " points " ++ decimal (pointsOf h k)))))
 

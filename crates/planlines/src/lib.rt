@@ -8,7 +8,7 @@ use wordlist::faults::Told;
 ghost use mathlib.Core.Path.{_≡_};
 ghost use Rattle.std.specs.Vec.{made};
 ghost use Rattle.std.specs.Of.String.{string-bytes};
-ghost use Rattle.planlines.specs.Lines.{planLine, placeLine, faultLine, mapLine};
+ghost use Rattle.planlines.specs.Lines.{planLine, zonesLine, placeLine, faultLine, mapLine};
 
 /// A plan was read: its floor and the number of its places.
 pub fn plan_line<P: Plan>(heap: Global, plan: &P) -> Result<String, AllocError>
@@ -18,6 +18,14 @@ pub fn plan_line<P: Plan>(heap: Global, plan: &P) -> Result<String, AllocError>
     let height = plan.height();
     let count = plan.count();
     format!(heap, "plan ok {width} {height} {count}")
+}
+
+/// Zones were put over a plan: the number of places in all.
+pub fn zones_line<P: Plan>(heap: Global, plan: &P) -> Result<String, AllocError>
+    ensures { λ r. ⌜ made r (λ s. string-bytes s ≡ zonesLine (hall (now (plan .entry)))) ⌝ }
+{
+    let count = plan.count();
+    format!(heap, "zones ok {count}")
 }
 
 /// The type of a place and how many points it covers; a number not in use counts as type 0.

@@ -41,6 +41,23 @@ contentOf p = record { sections = vec-items (p .sections); words = vec-items (p 
 abbrev pub roomOf : Page → ℕ
 roomOf p = vec-cap (p .words)
 
+-- the heading of section k, if there is one
+abbrev pub headingAt : ℕ → Content → Option Heading
+headingAt k c = mapped (λ s. s .heading) (nth (c .sections) k)
+
+-- where a section starts among n words: at their end where there is none
+abbrev pub startIn : ℕ → Option Section → ℕ
+startIn n (Some s) = s .first
+startIn n None = n
+
+-- where section k starts among the words
+abbrev pub startAt : ℕ → Content → ℕ
+startAt k c = startIn (length (c .words)) (nth (c .sections) k)
+
+-- the words of section k: from its start up to that of the next, and none where it is not there
+abbrev pub wordsAt : ℕ → Content → List ℕ
+wordsAt k c = between (startAt k c) (startAt (k + 1) c) (c .words)
+
 -- the section that a word names
 abbrev pub named : List ℕ → Option Heading
 named w =
@@ -48,23 +65,6 @@ named w =
     (cond (sameBytes w (codes "cells")) (Some Cells)
     (cond (sameBytes w (codes "zones")) (Some Zones)
     (cond (sameBytes w (codes "policy")) (Some Policy) None)))
-
--- the heading of section k, if there is one
-abbrev pub headingAt : ℕ → Content → Option Heading
-headingAt k c = mapped (λ s. s .heading) (nth (c .sections) k)
-
--- where a section starts among n words, or their end where there is none
-abbrev pub startIn : ℕ → Option Section → ℕ
-startIn n (Some s) = s .first
-startIn n None = n
-
--- where section k starts among the words, or their end where there is none
-abbrev pub startAt : ℕ → Content → ℕ
-startAt k c = startIn (length (c .words)) (nth (c .sections) k)
-
--- the words of section k: from its start up to the next one's
-abbrev pub wordsAt : ℕ → Content → List ℕ
-wordsAt k c = between (startAt k c) (startAt (k + 1) c) (c .words)
 
 -- a line is a section line if its only word is a name
 abbrev pub headingOf : List (List ℕ) → Option Heading

@@ -8,7 +8,7 @@ use Rattle.std.specs.declared.result.Result.the-variants.{Ok, Err}
 use Rattle.plantext.specs.declared.faults.Reason.the-variants.{NoSection, SectionOutOfPlace, BadDigit, LongWord, MissingSection}
 use Rattle.plantext.specs.declared.faults.TextFault.{TextFault}
 use Rattle.plantext.specs.declared.faults.Reason.{Reason}
-use Rattle.plantext.specs.declared.page.Heading.the-variants.{Drawn, Cells, Zones, Policy}
+use Rattle.plantext.specs.declared.page.Heading.the-variants.{Cells, Zones, Policy}
 use Rattle.plantext.specs.Reading.{Content, wordsAt, textOf, onLine}
 use Rattle.plantext.specs.Writing.{drawing}
 
@@ -29,7 +29,7 @@ full =
       words = 1 ∷ 2 ∷ 3 ∷ 4 ∷ [];
     }
 
--- texts that are read, and one for each reason
+-- texts that are read, the words of a section, and texts that are refused
 abbrev pub Worked : Type 0
 Worked =
     (textOf (ended (codes "# a hall" ∷ codes " drawn # the list" ∷ [] ∷ codes "10001008  aF#1" ∷ [])) ≡ Ok (drawing (0x10001008 ∷ 0xaf ∷ [])))

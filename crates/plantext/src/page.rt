@@ -16,9 +16,9 @@ pub enum Heading {
 
 /// A section: its words are those from `first` on, up to the next section's first.
 #[derive(Clone, Copy)]
-pub struct Section {
-    pub heading: Heading,
-    pub first: usize,
+struct Section {
+    heading: Heading,
+    first: usize,
 }
 
 /// The sections of a text and the words of all of them.

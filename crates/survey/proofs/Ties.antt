@@ -5,16 +5,16 @@ use mathlib.Core.Logic.{⊎-elim}
 use mathlib.Core.Path.{_≡_, refl, sym, _∙_, ap}
 use Prim.Native.Nat.{ℕ, _<_, _≤_}
 use native.Mathlib.Omega.{arith}
-use lib.Dec.{ltb, eqb}
+use lib.Dec.{ltb}
 use lib.ListN.{length, getD}
 use Rattle.std.specs.declared.option.Option.{Option}
-use Rattle.std.specs.declared.option.Option.the-variants.{Some, None}
+use Rattle.std.specs.declared.option.Option.the-variants.{None}
 use Rattle.std.proofs.shelf.Counted.{fill-by-all}
 use Rattle.std.proofs.shelf.Tests.{lt-ltb, le-ltb, cases-bool, cases-lt}
 use Rattle.sets.specs.Bounds.{every, some}
 use Rattle.sets.specs.declared.Set64.{Set64}
 use Rattle.sets.proofs.Bounds.{some-same, every-same}
-use Rattle.plan.specs.Hall.{Hall, nowhere, typeAt, coversAt}
+use Rattle.plan.specs.Hall.{Hall, typeAt}
 use Rattle.plan.specs.Lying.{hasPoint, liesIn, shares as meets, ofType, liesInSome, typeLies}
 use Rattle.survey.specs.declared.Survey.{Survey}
 use Rattle.survey.specs.Entries.{cell, Whole}

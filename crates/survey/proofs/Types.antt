@@ -1,18 +1,15 @@
 -- The lying of types, by places.
-use mathlib.Core.Bool.{Bool, true, false, cond, not, _&&_, _||_}
+use mathlib.Core.Bool.{Bool, true, cond, not, _&&_, _||_}
 use mathlib.Core.Logic.{⊎-elim}
 use mathlib.Core.Path.{_≡_, sym, _∙_, ap}
 use Prim.Native.Nat.{ℕ, _<_, _≤_}
 use native.Mathlib.Omega.{arith}
-use lib.Dec.{eqb, ltb}
 use lib.ListN.{length, getD}
-use Rattle.std.specs.declared.option.Option.{Option}
 use Rattle.std.specs.declared.option.Option.the-variants.{Some, None}
 use Rattle.std.proofs.shelf.Tests.{and-parts, and-from, lt-ltb, le-ltb, eqb-true, eq-eqb, cases-lt}
-use Rattle.sets.specs.Bounds.{every, some}
 use Rattle.sets.proofs.Bounds.{decides-some, decides-every}
 use Rattle.plan.specs.Hall.{Hall, nowhere, typeAt}
-use Rattle.plan.specs.Lying.{liesIn, ofType, liesInSome, typeLies}
+use Rattle.plan.specs.Lying.{liesIn, ofType, liesInSome}
 use Rattle.survey.specs.Laws.{Some-means, Types-mean}
 use Rattle.survey.proofs.Lying.{implies}
 

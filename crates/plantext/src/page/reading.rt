@@ -84,7 +84,7 @@ impl Page {
         }
     }
 
-    /// Where section `k` starts among the words, or their end where there is none.
+    /// Where section `k` starts among the words, or their end where it is not there.
     fn start(&self, k: usize) -> usize
         ensures { λ r. ⌜ r ≡ startAt k (contentOf (now (self .entry))) ⌝ }
     {

@@ -2,8 +2,8 @@
 
 use super::Charter;
 use keyed::pair::PairOrder;
-use keyed::triple::TripleOrder;
 use keyed::shelf::Shelf;
+use keyed::triple::TripleOrder;
 use records::badges::badges_of;
 use records::badges::sound_badges;
 use records::keys::AssignmentKeyed;

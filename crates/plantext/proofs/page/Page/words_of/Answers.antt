@@ -15,6 +15,7 @@ use Rattle.plantext.proofs.page.Page.words_of.Needs as need
 clipped : (xs : List ℕ) (s e n low high : ℕ) → n ≡ length xs → high ≡ min e n → low ≡ min s high → between low high xs ≡ between s e xs
 clipped xs s e n low high is ends starts = same-lists _ _ (simp (length-take, length-drop) (omega arith)) (λ k d h. grind (arith, places))
 
+-- a section that is not there has no words
 none-past : (c : Content) (k : ℕ) → length (c .sections) ≤ k → [] ≡ wordsAt k c
 none-past c k le = search (needs, nth-past, drop-all)
 

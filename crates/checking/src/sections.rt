@@ -13,21 +13,26 @@ use listed::listed::answers::ListedPlan;
 use listed::shape::Shape;
 use plan::Plan;
 use planlines::plan_line;
+use planlines::policy_line;
 use planlines::zones_line;
 use plantext::page::Heading;
 use plantext::page::Page;
+use policy::policy::Policy;
 use std::alloc::AllocError;
 use std::error::AnyError;
+use wordlist::faults::RecordFault;
 use zones::zones::Zones;
 use zones::zones::answers::ZonesPlan;
 
 ghost use mathlib.Core.Path.{_≡_};
 ghost use Rattle.std.specs.Of.Vec.{vec-items};
 ghost use Rattle.std.specs.Options.{mapped};
+ghost use Rattle.std.specs.Results.{isOk};
 ghost use Rattle.std.specs.Vec.{made};
+ghost use Rattle.policy.specs.Reading.{contentFrom};
 ghost use Rattle.plantext.specs.Reading.{contentOf, wordsAt};
 ghost use Rattle.zones.specs.Piles.{zoneHall};
-ghost use Rattle.checking.specs.Accepting.{accepts, firstAccepts, listAccepts, piledOf, secondAccepts, zonesAt};
+ghost use Rattle.checking.specs.Accepting.{accepts, firstAccepts, listAccepts, piledOf, policyAccepts, policyAt, secondAccepts, zonesAt};
 
 /// Whether section `k` is a list of zones.
 fn is_zones(page: &Page, k: usize) -> bool
@@ -56,19 +61,52 @@ fn piled<P: Plan + Drop>(rt: &LibcRuntime, page: &Page, k: usize, plan: P) -> Re
     }
 }
 
-/// The second list of zones, if there is one, and then the places.
+/// Whether section `k` is a policy.
+fn is_policy(page: &Page, k: usize) -> bool
+    ensures { λ r. ⌜ r ≡ policyAt k (contentOf (now (page .entry))) ⌝ }
+{
+    matches!(page.heading(k), Some(Heading::Policy))
+}
+
+/// Prints what a policy has, or its fault.
+fn tell_policy(rt: &LibcRuntime, policy: &Policy, words: &[u32], answer: Result<(), RecordFault>) -> Result<(), AnyError> {
+    match answer {
+        Ok(()) => rt.println(policy_line(rt.alloc(), policy)?)?,
+        Err(fault) => tell(rt, "policy", words, fault)?,
+    }
+    Ok(())
+}
+
+/// A policy.
+fn policy(rt: &LibcRuntime, words: &[u32]) -> Result<bool, AnyError>
+    ensures { λ r. ⌜ made r (λ b. b ≡ isOk (contentFrom (now (words .entry)))) ⌝ }
+{
+    let mut policy = Policy::new(rt.alloc())?;
+    let answer = policy.read(words);
+    tell_policy(rt, &policy, words, answer)?;
+    Ok(answer.is_ok())
+}
+
+/// The places of the plan, and then the policy, if section `k` is one.
+fn finish<P: Plan>(rt: &LibcRuntime, page: &Page, k: usize, plan: &P, map: bool) -> Result<bool, AnyError>
+    ensures { λ r. ⌜ made r (λ b. b ≡ policyAccepts k (contentOf (now (page .entry)))) ⌝ }
+{
+    places(rt, plan, map)?;
+    if !is_policy(page, k) {
+        return Ok(true);
+    }
+    policy(rt, page.words_of(k))
+}
+
+/// The second list of zones, if there is one, and what follows.
 fn second_zones<P: Plan + Drop>(rt: &LibcRuntime, page: &Page, plan: P, map: bool) -> Result<bool, AnyError>
     ensures { λ r. ⌜ made r (λ b. b ≡ secondAccepts (P·Plan .hall plan) (contentOf (now (page .entry)))) ⌝ }
 {
     if !is_zones(page, 2) {
-        places(rt, &plan, map)?;
-        return Ok(true);
+        return finish(rt, page, 2, &plan, map);
     }
     match piled(rt, page, 2, plan)? {
-        Some(pile) => {
-            places(rt, &pile, map)?;
-            Ok(true)
-        }
+        Some(pile) => finish(rt, page, 3, &pile, map),
         None => Ok(false),
     }
 }
@@ -78,8 +116,7 @@ fn first_zones<P: Plan + Drop>(rt: &LibcRuntime, page: &Page, plan: P, map: bool
     ensures { λ r. ⌜ made r (λ b. b ≡ firstAccepts (P·Plan .hall plan) (contentOf (now (page .entry)))) ⌝ }
 {
     if !is_zones(page, 1) {
-        places(rt, &plan, map)?;
-        return Ok(true);
+        return finish(rt, page, 1, &plan, map);
     }
     match piled(rt, page, 1, plan)? {
         Some(pile) => second_zones(rt, page, pile, map),

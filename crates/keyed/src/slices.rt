@@ -25,7 +25,8 @@ pub fn all_rise<R: Keyed>(records: &[R]) -> bool
     ensures { λ r. ⌜ r ≡ rising (Key·KeyOrder .less) keyed (now (records .entry)) ⌝ }
 {
     for i in 1..records.len() {
-        if !records[i - 1].key().below(&records[i].key()) {
+        let rises = records[i - 1].key().below(&records[i].key());
+        if !rises {
             return false;
         }
     }

@@ -16,7 +16,7 @@ fn help(rt: &LibcRuntime) -> Result<(), AnyError> {
     println!(rt, "")?;
     println!(rt, "The text: a line `drawn` or `cells`, and after it lines of hexadecimal words, up to eight")?;
     println!(rt, "digits each, with spaces between them. Then up to two sections of the same form that begin")?;
-    println!(rt, "with a line `zones`. From # to the end of a line is comment.")?;
+    println!(rt, "with a line `zones`, and last a section `policy`. From # to the end of a line is comment.")?;
     println!(rt, "")?;
     println!(rt, "Lines that begin with a space explain; the others have fixed forms for a script to read.")?;
     println!(rt, "Status 0 if all is accepted, 1 if something is refused.")?;

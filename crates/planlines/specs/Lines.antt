@@ -7,6 +7,7 @@ use Rattle.std.specs.Options.{valueOr}
 use Rattle.std.specs.Written.{decimal}
 use Rattle.plan.specs.Hall.{Hall, typeAt}
 use Rattle.planview.specs.Views.{pointsOf}
+use Rattle.policy.specs.Contents.{Content}
 use Rattle.wordlist.specs.declared.faults.Told.{Told}
 
 abbrev pub planLine : Hall → List ℕ
@@ -17,6 +18,11 @@ zonesLine h = codes "zones ok " ++ decimal (length (h .places))
 
 abbrev pub placeLine : Hall → ℕ → List ℕ
 placeLine h k = codes "place " ++ (decimal k ++ (codes " type " ++ (decimal (valueOr (typeAt h k) 0) ++ (codes " points " ++ decimal (pointsOf h k)))))
+
+abbrev pub policyLine : Content → List ℕ
+policyLine c =
+    codes "policy ok badges " ++ (decimal (c .badges) ++ (codes " schemas " ++ (decimal (length (c .schemas))
+    ++ (codes " parents " ++ (decimal (length (c .parents)) ++ (codes " roles " ++ decimal (length (c .roles))))))))
 
 abbrev pub mapLine : ℕ → List ℕ
 mapLine k = codes "map " ++ decimal k

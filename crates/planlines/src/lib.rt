@@ -2,13 +2,15 @@
 
 use plan::Plan;
 use planview::points;
+use policy::policy::Policy;
 use std::alloc::AllocError;
 use std::alloc::Global;
 use wordlist::faults::Told;
 ghost use mathlib.Core.Path.{_≡_};
 ghost use Rattle.std.specs.Vec.{made};
 ghost use Rattle.std.specs.Of.String.{string-bytes};
-ghost use Rattle.planlines.specs.Lines.{planLine, zonesLine, placeLine, faultLine, mapLine};
+ghost use Rattle.policy.specs.Policies.{says};
+ghost use Rattle.planlines.specs.Lines.{planLine, zonesLine, placeLine, policyLine, faultLine, mapLine};
 
 /// A plan was read: its floor and the number of its places.
 pub fn plan_line<P: Plan>(heap: Global, plan: &P) -> Result<String, AllocError>
@@ -26,6 +28,17 @@ pub fn zones_line<P: Plan>(heap: Global, plan: &P) -> Result<String, AllocError>
 {
     let count = plan.count();
     format!(heap, "zones ok {count}")
+}
+
+/// A policy was read: how many badges, schemas, parent records and roles it has.
+pub fn policy_line(heap: Global, policy: &Policy) -> Result<String, AllocError>
+    ensures { λ r. ⌜ made r (λ s. string-bytes s ≡ policyLine (says (now (policy .entry)))) ⌝ }
+{
+    let badges = policy.badges();
+    let schemas = policy.schema_count();
+    let parents = policy.parent_count();
+    let roles = policy.role_count();
+    format!(heap, "policy ok badges {badges} schemas {schemas} parents {parents} roles {roles}")
 }
 
 /// The type of a place and how many points it covers; a number not in use counts as type 0.

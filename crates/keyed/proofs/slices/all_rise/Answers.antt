@@ -6,13 +6,13 @@ use lib.ListN.{length, drop, length-drop}
 use Rattle.keyed.proofs.Rising.{rises-at, falls-at, short-rises}
 use Rattle.keyed.proofs.slices.all_rise.Needs as need
 
-pub returns-then-not-below : need.returns-then-not-below
-returns-then-not-below g c =
+pub returns-then-not-rises : need.returns-then-not-rises
+returns-then-not-rises g c =
     let less = g .Key·KeyOrder .less in
     let key = g .R·Keyed .keyed in
     let x = c .index-records-i .result in
     let y = c .index-records-i-in-loop-i .result in
-    let e : less (key x) (key y) ≡ false = ap (λ a. less a (key y)) (sym (c .key .ensures)) ∙ ap (less (c .key .result)) (sym (c .key-in-loop-i .ensures)) ∙ sym (c .if-not-below .ensures tt) in
+    let e : less (key x) (key y) ≡ false = ap (λ a. less a (key y)) (sym (c .key .ensures)) ∙ ap (less (c .key .result)) (sym (c .key-in-loop-i .ensures)) ∙ sym (c .below-rises .ensures) ∙ c .if-not-rises .taken in
     sym (falls-at less key (c .args .records .now) (c .loop-i .i) x y (omega arith) (c .loop-i-test .taken) (c .index-records-i .is) (c .index-records-i-in-loop-i .is) e) ∙ c .loop-i .inv
 
 pub loop-i-again : need.loop-i-again
@@ -21,7 +21,7 @@ loop-i-again g c =
     let key = g .R·Keyed .keyed in
     let x = c .index-records-i .result in
     let y = c .index-records-i-in-loop-i .result in
-    let e : less (key x) (key y) ≡ true = ap (λ a. less a (key y)) (sym (c .key .ensures)) ∙ ap (less (c .key .result)) (sym (c .key-in-loop-i .ensures)) ∙ sym (c .if-not-below .ensures tt) in
+    let e : less (key x) (key y) ≡ true = ap (λ a. less a (key y)) (sym (c .key .ensures)) ∙ ap (less (c .key .result)) (sym (c .key-in-loop-i .ensures)) ∙ sym (c .below-rises .ensures) ∙ c .if-not-rises .left in
     sym (rises-at less key (c .args .records .now) (c .loop-i .i) x y (omega arith) (c .loop-i-test .taken) (c .index-records-i .is) (c .index-records-i-in-loop-i .is) e) ∙ c .loop-i .inv
 
 pub returns : need.returns

@@ -7,9 +7,9 @@ use Rattle.plantext.specs.declared.faults.Reason.the-variants.{NoSection, Sect
 
 -- the bytes of a reason's text
 abbrev pub spoken : Reason → List ℕ
-spoken NoSection = codes "no section is open"
-spoken SectionOutOfPlace = codes "section out of place"
-spoken BadDigit = codes "bad digit"
-spoken LongWord = codes "word too long"
-spoken MissingSection = codes "missing section"
-spoken NoRoom = codes "no room"
+spoken NoSection = codes "a word stands before any section line"
+spoken SectionOutOfPlace = codes "section out of place: first drawn or cells, then zones up to twice, then policy"
+spoken BadDigit = codes "a word has a character that is no hexadecimal digit"
+spoken LongWord = codes "a word has more than eight characters; only spaces separate words"
+spoken MissingSection = codes "no section line: drawn or cells is wanted"
+spoken NoRoom = codes "no room for a text of this length"

@@ -32,12 +32,13 @@ impl Reason {
         ensures { λ r. ⌜ now r ≡ spoken (now (self .entry)) ⌝ }
     {
         match self {
-            Reason::NoSection => "no section is open",
-            Reason::SectionOutOfPlace => "section out of place",
-            Reason::BadDigit => "bad digit",
-            Reason::LongWord => "word too long",
-            Reason::MissingSection => "missing section",
-            Reason::NoRoom => "no room",
+            Reason::NoSection => "a word stands before any section line",
+            Reason::SectionOutOfPlace =>
+                "section out of place: first drawn or cells, then zones up to twice, then policy",
+            Reason::BadDigit => "a word has a character that is no hexadecimal digit",
+            Reason::LongWord => "a word has more than eight characters; only spaces separate words",
+            Reason::MissingSection => "no section line: drawn or cells is wanted",
+            Reason::NoRoom => "no room for a text of this length",
         }
     }
 }

@@ -19,7 +19,8 @@ use Rattle.records.specs.Words.{badgesOf, schemaOf, parentOf, roleOf, schemaPer
 use Rattle.records.proofs.Spelled.{badges-word, schema-word, parent-word, role-word, schema-permission-word, role-permission-word, assignment-word}
 use Rattle.policy.specs.Contents.{Content, none}
 use Rattle.policy.specs.Rules.{policyRules, turnAs, soundAs, withAs, leastKind}
-use Rattle.policy.specs.Reading.{given, contentFrom, answered, replaced}
+use Rattle.wordlist.specs.Outcomes.{given, answered, replaced}
+use Rattle.policy.specs.Reading.{contentFrom}
 use Rattle.policy.specs.Spelling.{recordWords, spelled}
 use Rattle.policy.proofs.Order.{Turned, front, schema, parent, role, schemaPermission, rolePermission, assignment, Later, turned, higher, no-assignments, no-role-permissions, no-schema-permissions, no-roles, no-parents}
 use Rattle.policy.proofs.Turns.{sound-badges, sound-parent, sound-role, sound-schema-permission, sound-role-permission, sound-assignment}
@@ -127,7 +128,7 @@ module _ (c : Content) where
 adds : Adds policyRules written Good
 adds c w good p = adds-by c w good (turned c w (kindOf w) (p .turn)) (p .sound)
 
-from : (r : Content × Answer) (ws : List ℕ) (c : Content) → readOf policyRules none ws ≡ r → given r ≡ Ok c → spelled c ≡ ws
+from : (r : Content × Answer) (ws : List ℕ) (c : Content) → readOf policyRules none ws ≡ r → given (λ x. x) r ≡ Ok c → spelled c ≡ ws
 from (s, Err f) ws c e g = absurd (let z : _≡_ {A = ℕ} 0 1 = cc in omega arith)
 from (s, Ok u) ws c e g =
     let same : s ≡ c = cc in

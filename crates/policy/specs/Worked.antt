@@ -7,7 +7,8 @@ use Rattle.std.specs.declared.result.Result.the-variants.{Ok, Err}
 use Rattle.wordlist.specs.Reading.{Answer}
 use Rattle.wordlist.specs.declared.faults.WordFault.the-variants.{Short, Foreign}
 use Rattle.wordlist.specs.declared.faults.RecordFault.the-variants.{Word, OutOfTurn, Full, BadField}
-use Rattle.policy.specs.Reading.{answered, contentFrom}
+use Rattle.wordlist.specs.Outcomes.{answered}
+use Rattle.policy.specs.Reading.{contentFrom}
 
 -- the answer to a list
 abbrev pub answerTo : List ℕ → Answer

@@ -7,24 +7,24 @@ use native.Mathlib.Omega.{arith}
 use lib.Dec.{ltb}
 use lib.ListN.{length}
 use Rattle.std.proofs.shelf.Tests.{cases-bool, and-parts, and-left, and-right, ltb-true, le-ltb}
-use Rattle.policy.specs.Contents.{Content, roleAt}
-use Rattle.rights.specs.Ancestors.{ancestor-by}
+use Rattle.policy.specs.Contents.{Content}
+use Rattle.rights.specs.Ancestors.{bySchema, byExtent, ancestor-by}
 
 module _ (c : Content) (f f′ g g′ : ℕ → ℕ → Bool) where
   -- relations that agree on the schemas and on the extents of two roles in use
   pub ancestor-same : (r a : ℕ)
-    → (r < length (c .roles) → a < length (c .roles) → f (roleAt c r .schema) (roleAt c a .schema) ≡ f′ (roleAt c r .schema) (roleAt c a .schema))
-    → (r < length (c .roles) → a < length (c .roles) → g (roleAt c r .extent) (roleAt c a .extent) ≡ g′ (roleAt c r .extent) (roleAt c a .extent))
-    → ancestor-by f g c r a ≡ ancestor-by f′ g′ c r a
+      → (r < length (c .roles) → a < length (c .roles) → bySchema f c r a ≡ bySchema f′ c r a)
+      → (r < length (c .roles) → a < length (c .roles) → byExtent g c r a ≡ byExtent g′ c r a)
+      → ancestor-by f g c r a ≡ ancestor-by f′ g′ c r a
   ancestor-same r a reach lies =
       let used = ltb r (length (c .roles)) && ltb a (length (c .roles)) in
       ⊎-elim
       (λ (e : (ltb r (length (c .roles)) && ltb a (length (c .roles))) ≡ true).
-        let both = and-parts (ltb r (length (c .roles))) (ltb a (length (c .roles))) e in
-        let rl : r < length (c .roles) = ltb-true _ _ (both .0) in
-        let al : a < length (c .roles) = ltb-true _ _ (both .1) in
-        ap (λ (b : Bool). used && (b && g (roleAt c r .extent) (roleAt c a .extent))) (reach rl al)
-        ∙ ap (λ (b : Bool). used && (f′ (roleAt c r .schema) (roleAt c a .schema) && b)) (lies rl al))
+      let both = and-parts (ltb r (length (c .roles))) (ltb a (length (c .roles))) e in
+      let rl : r < length (c .roles) = ltb-true _ _ (both .0) in
+      let al : a < length (c .roles) = ltb-true _ _ (both .1) in
+      ap (λ (b : Bool). used && (b && byExtent g c r a)) (reach rl al)
+      ∙ ap (λ (b : Bool). used && (bySchema f′ c r a && b)) (lies rl al))
       (λ (e : (ltb r (length (c .roles)) && ltb a (length (c .roles))) ≡ false). and-left _ _ e ∙ sym (and-left _ _ e))
       (cases-bool (ltb r (length (c .roles)) && ltb a (length (c .roles))))
 

@@ -82,31 +82,31 @@ module _ (c : Content) where
           let p = parentAt c k .parent in
           h p a b
           ∙ ap (λ (t : Bool). eqb a p || t)
-            (sym (some-until (length (c .parents)) k (by-step c p (λ t. reaches c t a)) (omega arith)
-              (λ j m u. and-left _ _ (ne-eqb (parentAt c j .child) p (λ (e : parentAt c j .child ≡ p). omega (arith, lower k l, children-rise (c .parents) rises k j (record { parent = 0; child = 0 }) m u))))))
+          (sym (some-until (length (c .parents)) k (by-step c p (λ t. reaches c t a)) (omega arith)
+          (λ j m u. and-left _ _ (ne-eqb (parentAt c j .child) p (λ (e : parentAt c j .child ≡ p). omega (arith, lower k l, children-rise (c .parents) rises k j (record { parent = 0; child = 0 }) m u))))))
           ∙ sym (reaches-step c upward p a)
 
       closed-more : (k : ℕ) (rows : List Set64) (v : Set64) → k < length (c .parents) → length rows ≡ 32 → parentAt c k .child < 32 → Closed k rows
-        → ((a : ℕ) → member (v .bits) a ≡ (cell rows (parentAt c k .child) a || cell rows (parentAt c k .parent) a)) → Closed (k + 1) (set rows (parentAt c k .child) v)
+          → ((a : ℕ) → member (v .bits) a ≡ (cell rows (parentAt c k .child) a || cell rows (parentAt c k .parent) a)) → Closed (k + 1) (set rows (parentAt c k .child) v)
       closed-more k rows v l len b h new s a u =
           let q = parentAt c k .child in
           let p = parentAt c k .parent in
           ⊎-elim
           (λ (same : s ≡ q). rw same
-            ( ap (λ (w : Set64). member (w .bits) a) (getD-set-same rows q v (record { bits = 0 }) (omega arith)) ∙ new a
-            ∙ ap (λ (t : Bool). t || cell rows p a) (h q a b)
-            ∙ ap (λ (t : Bool). (eqb a q || some k (by-step c q (λ t. reaches c t a))) || t) (parent-done k a rows l (omega (arith, lower k l)) h)
-            ∙ turned (eqb a q) (some k (by-step c q (λ t. reaches c t a))) (reaches c p a) (by-step c q (λ t. reaches c t a) k) (ap (λ (t : Bool). t && reaches c p a) (eq-eqb q q refl))
-            ∙ ap (λ (t : Bool). eqb a q || t) (sym (some-step (by-step c q (λ t. reaches c t a)) k)) ))
+          (ap (λ (w : Set64). member (w .bits) a) (getD-set-same rows q v (record { bits = 0 }) (omega arith)) ∙ new a
+          ∙ ap (λ (t : Bool). t || cell rows p a) (h q a b)
+          ∙ ap (λ (t : Bool). (eqb a q || some k (by-step c q (λ t. reaches c t a))) || t) (parent-done k a rows l (omega (arith, lower k l)) h)
+          ∙ turned (eqb a q) (some k (by-step c q (λ t. reaches c t a))) (reaches c p a) (by-step c q (λ t. reaches c t a) k) (ap (λ (t : Bool). t && reaches c p a) (eq-eqb q q refl))
+          ∙ ap (λ (t : Bool). eqb a q || t) (sym (some-step (by-step c q (λ t. reaches c t a)) k))))
           (λ (other : s ≡ q → ⊥).
-            ap (λ (w : Set64). member (w .bits) a) (getD-set-other rows q s v (record { bits = 0 }) other) ∙ h s a u
-            ∙ ap (λ (t : Bool). eqb a s || t)
-              (sym (some-step (by-step c s (λ t. reaches c t a)) k ∙ ap (λ (t : Bool). t || some k (by-step c s (λ t. reaches c t a))) (and-left _ _ (ne-eqb q s (λ e. other (sym e)))))))
+          ap (λ (w : Set64). member (w .bits) a) (getD-set-other rows q s v (record { bits = 0 }) other) ∙ h s a u
+          ∙ ap (λ (t : Bool). eqb a s || t)
+          (sym (some-step (by-step c s (λ t. reaches c t a)) k ∙ ap (λ (t : Bool). t || some k (by-step c s (λ t. reaches c t a))) (and-left _ _ (ne-eqb q s (λ e. other (sym e)))))))
           (cases-eq s q)
 
       -- one turn of the loop, which reads record k as q
       pub closed-by : (k : ℕ) (rows : List Set64) (v : Set64) (q : Parent) → q ≡ parentAt c k → k < length (c .parents) → length rows ≡ 32 → Closed k rows → parentAt c k .child < 32
-        → ((a : ℕ) → member (v .bits) a ≡ (cell rows (q .child) a || cell rows (q .parent) a)) → Closed (k + 1) (set rows (q .child) v)
+          → ((a : ℕ) → member (v .bits) a ≡ (cell rows (q .child) a || cell rows (q .parent) a)) → Closed (k + 1) (set rows (q .child) v)
       closed-by k rows v q e l len h b =
           subst (λ (p : Parent). ((a : ℕ) → member (v .bits) a ≡ (cell rows (p .child) a || cell rows (p .parent) a)) → Closed (k + 1) (set rows (p .child) v)) (sym e)
           (closed-more k rows v l len b h)

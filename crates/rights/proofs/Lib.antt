@@ -4,3 +4,6 @@ pub mod Entries
 pub mod Reaching
 pub mod Closing
 pub mod Aboves
+pub mod Ancestral
+pub mod Lending
+pub mod Entitling

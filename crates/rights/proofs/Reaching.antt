@@ -34,9 +34,9 @@ module _ (c : Content) where
       ⊎-elim
       (λ (e : eqb a s ≡ true). subst (λ t. Reached c s t) (sym (eqb-true a s e)) none)
       (λ (e : some (length (c .parents)) (by-step c s (within n c a)) ≡ true).
-        let found = decides-some (by-step c s (within n c a)) (length (c .parents)) .0 e in
-        let parts = and-parts (eqb (parentAt c (found .0) .child) s) (within n c a (parentAt c (found .0) .parent)) (found .2) in
-        step (found .0) (found .1) (eqb-true _ _ (parts .0)) (reached-from n a (parentAt c (found .0) .parent) (parts .1)))
+      let found = decides-some (by-step c s (within n c a)) (length (c .parents)) .0 e in
+      let parts = and-parts (eqb (parentAt c (found .0) .child) s) (within n c a (parentAt c (found .0) .parent)) (found .2) in
+      step (found .0) (found .1) (eqb-true _ _ (parts .0)) (reached-from n a (parentAt c (found .0) .parent) (parts .1)))
       (or-cases (eqb a s) (some (length (c .parents)) (by-step c s (within n c a))) h)
 
   pub itself : (n s : ℕ) → within n c s s ≡ true
@@ -55,7 +55,7 @@ module _ (c : Content) where
     lowest-alone : (n a s : ℕ) → s ≤ 0 → within (suc n) c a s ≡ eqb a s
     lowest-alone n a s l =
         let nothing : some (length (c .parents)) (by-step c s (within n c a)) ≡ false
-              = some-none (length (c .parents)) (by-step c s (within n c a)) (λ k m. and-left _ _ (ne-eqb (parentAt c k .child) s (λ (e : parentAt c k .child ≡ s). omega (arith, lower k m)))) in
+        = some-none (length (c .parents)) (by-step c s (within n c a)) (λ k m. and-left _ _ (ne-eqb (parentAt c k .child) s (λ (e : parentAt c k .child ≡ s). omega (arith, lower k m)))) in
         ap (λ (b : Bool). eqb a s || b) nothing ∙ or-none (eqb a s)
 
     -- from s, any number of steps from s on is enough
@@ -66,22 +66,22 @@ module _ (c : Content) where
     enough (suc m) (suc n) a s l u =
         ap (λ (b : Bool). eqb a s || b)
         (some-same (length (c .parents)) (by-step c s (within m c a)) (by-step c s (within n c a))
-          (λ k h. same-step s k (within m c a) (within n c a) (λ e. enough m n a (parentAt c k .parent) (omega (arith, lower k h)) (omega (arith, lower k h)))))
+        (λ k h. same-step s k (within m c a) (within n c a) (λ e. enough m n a (parentAt c k .parent) (omega (arith, lower k h)) (omega (arith, lower k h)))))
 
     -- reached is the schema itself, or what is reached from a parent
     pub reaches-step : (s a : ℕ) → reaches c s a ≡ (eqb a s || some (length (c .parents)) (by-step c s (λ t. reaches c t a)))
     reaches-step s a =
         enough s (suc s) a s (omega arith) (omega arith)
         ∙ ap (λ (b : Bool). eqb a s || b)
-          (some-same (length (c .parents)) (by-step c s (within s c a)) (by-step c s (λ t. reaches c t a))
-            (λ k h. same-step s k (within s c a) (λ t. reaches c t a) (λ e. enough s (parentAt c k .parent) a (parentAt c k .parent) (omega (arith, lower k h)) (omega arith))))
+        (some-same (length (c .parents)) (by-step c s (within s c a)) (by-step c s (λ t. reaches c t a))
+        (λ k h. same-step s k (within s c a) (λ t. reaches c t a) (λ e. enough s (parentAt c k .parent) a (parentAt c k .parent) (omega (arith, lower k h)) (omega arith))))
 
     pub reaches-from : (s a : ℕ) → Reached c s a → reaches c s a ≡ true
     reaches-from s a none = itself s s
     reaches-from s a (step k l e up) =
         reaches-step s a
         ∙ or-right (eqb a s) _
-          (some-here (by-step c s (λ t. reaches c t a)) k (length (c .parents)) l (and-from _ _ (eq-eqb _ _ e) (reaches-from (parentAt c k .parent) a up)))
+        (some-here (by-step c s (λ t. reaches c t a)) k (length (c .parents)) l (and-from _ _ (eq-eqb _ _ e) (reaches-from (parentAt c k .parent) a up)))
 
 pub reaches-means : Reaches-means
 reaches-means p s a = (reached-from (says p) s a s, reaches-from (says p) (p .kept .upward) s a)

@@ -2,4 +2,6 @@
 pub mod Rows
 pub mod Reach
 pub mod Ancestors
+pub mod Rights
+pub mod Entitlement
 pub mod Laws

@@ -17,7 +17,8 @@ fn is_above(policy: &Policy, reach: &[Set64; 32], lies: &[Set64; 64], r: usize, 
     if r < policy.role_count() && a < policy.role_count() {
         let low = policy.role(r);
         let high = policy.role(a);
-        is_in(reach, low.schema as usize, high.schema as usize) && is_in(lies, low.extent as usize, high.extent as usize)
+        is_in(reach, low.schema as usize, high.schema as usize)
+            && is_in(lies, low.extent as usize, high.extent as usize)
     } else {
         false
     }

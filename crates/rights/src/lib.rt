@@ -2,6 +2,8 @@
 //! roles that come by them.
 
 pub mod ancestry;
+pub mod carried;
 pub mod closure;
+pub mod entitled;
 pub mod laws;
 pub mod table;

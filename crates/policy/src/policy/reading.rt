@@ -13,7 +13,8 @@ ghost use Rattle.std.specs.Vec.{made};
 ghost use Rattle.std.specs.declared.result.Result.the-variants.{Ok};
 ghost use Rattle.policy.specs.Contents.{contentOf, none};
 ghost use Rattle.policy.specs.Policies.{says};
-ghost use Rattle.policy.specs.Reading.{answered, contentFrom, replaced};
+ghost use Rattle.wordlist.specs.Outcomes.{answered, replaced};
+ghost use Rattle.policy.specs.Reading.{contentFrom};
 ghost use Rattle.policy.specs.Spelling.{spelled};
 
 impl Policy {

@@ -4,7 +4,8 @@ use Rattle.std.specs.declared.result.Result.{Result}
 use Rattle.std.specs.declared.result.Result.the-variants.{Ok, Err}
 use Rattle.wordlist.specs.declared.faults.RecordFault.{RecordFault}
 use Rattle.policy.specs.Contents.{Content}
-use Rattle.policy.specs.Reading.{answered, contentFrom}
+use Rattle.wordlist.specs.Outcomes.{answered}
+use Rattle.policy.specs.Reading.{contentFrom}
 use Rattle.checking.proofs.sections.policy.Needs as need
 
 -- the answer is accepted where something was read

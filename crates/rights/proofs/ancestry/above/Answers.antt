@@ -19,9 +19,10 @@ loop-a-holds c = filled-none _ (c .none-found .result .bits) (c .none-found .ens
 pub loop-a-again : need.loop-a-again
 loop-a-again c =
     let f : ℕ → Bool = ancestor-by (cell (c .args .reach .now)) (cell (c .args .lies .now)) (says (c .args .policy .now)) (c .args .r) in
-    elim (c .if-is-above .came)
-    [ then-is-above w ↦ subst (λ (s : Set64). Filled f (c .loop-a .a + 1) (s .bits)) (sym (w .found-is)) (filled-with f (c .loop-a .a) (c .loop-a .found .bits) (w .with-found .result .bits) (omega (arith, roles-few (c .args .policy .now))) (sym (w .if-is-above .ensures tt)) (w .with-found .ensures) (c .loop-a .inv))
-    | else-is-above w ↦ subst (λ (s : Set64). Filled f (c .loop-a .a + 1) (s .bits)) (sym (w .found-is)) (filled-skip f (c .loop-a .a) (c .loop-a .found .bits) (sym (w .if-is-above .ensures tt)) (c .loop-a .inv)) ]
+    elim (c .if-is-above .came) [
+      | then-is-above w ↦ subst (λ (s : Set64). Filled f (c .loop-a .a + 1) (s .bits)) (sym (w .found-is)) (filled-with f (c .loop-a .a) (c .loop-a .found .bits) (w .with-found .result .bits) (omega (arith, roles-few (c .args .policy .now))) (sym (w .if-is-above .ensures tt)) (w .with-found .ensures) (c .loop-a .inv))
+      | else-is-above w ↦ subst (λ (s : Set64). Filled f (c .loop-a .a + 1) (s .bits)) (sym (w .found-is)) (filled-skip f (c .loop-a .a) (c .loop-a .found .bits) (sym (w .if-is-above .ensures tt)) (c .loop-a .inv))
+    ]
 
 pub returns : need.returns
 returns c =

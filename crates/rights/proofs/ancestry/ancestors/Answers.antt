@@ -16,13 +16,14 @@ use Rattle.rights.proofs.Entries.{cell-past}
 use Rattle.rights.proofs.ancestry.ancestors.Needs as need
 
 pub loop-r-again : need.loop-r-again
-loop-r-again c =
-    ( simp length-set (c .loop-r .inv .0)
-    , (λ r a l.
-        ⊎-elim
-        (λ (same : r ≡ c .loop-r .r). rw same (ap (λ (w : Set64). member (w .bits) a) (getD-set-same (c .loop-r .rows) (c .loop-r .r) (c .above .result) (record { bits = 0 }) (omega arith)) ∙ c .above .ensures a))
-        (λ (other : r ≡ c .loop-r .r → ⊥). ap (λ (w : Set64). member (w .bits) a) (getD-set-other (c .loop-r .rows) (c .loop-r .r) r (c .above .result) (record { bits = 0 }) other) ∙ c .loop-r .inv .1 r a (omega (arith, other)))
-        (cases-eq r (c .loop-r .r))) )
+loop-r-again c = (
+  simp length-set (c .loop-r .inv .0),
+  (λ r a l.
+      ⊎-elim
+      (λ (same : r ≡ c .loop-r .r). rw same (ap (λ (w : Set64). member (w .bits) a) (getD-set-same (c .loop-r .rows) (c .loop-r .r) (c .above .result) (record { bits = 0 }) (omega arith)) ∙ c .above .ensures a))
+      (λ (other : r ≡ c .loop-r .r → ⊥). ap (λ (w : Set64). member (w .bits) a) (getD-set-other (c .loop-r .rows) (c .loop-r .r) r (c .above .result) (record { bits = 0 }) other) ∙ c .loop-r .inv .1 r a (omega (arith, other)))
+      (cases-eq r (c .loop-r .r))),
+)
 
 pub returns : need.returns
 returns c r a =

@@ -5,3 +5,4 @@ pub mod Ancestors
 pub mod Rights
 pub mod Entitlement
 pub mod Laws
+pub mod Worked

@@ -7,3 +7,4 @@ pub mod closure;
 pub mod entitled;
 pub mod laws;
 pub mod table;
+pub mod worked;

@@ -39,6 +39,6 @@ returns-in-Some c =
     let p = says (c .args .self .policy .now) in
     let i = c .loop-e .inv in
     sym
-    ( first-here (all-overlaps v p) (c .search .s) (length (p .schemas)) _ (omega arith) (i .1)
-      (first-here (overlaps v p (c .search .s)) (c .loop-l .l) (v .count) _ (omega arith) (i .2)
-        (first-here (overlap v p (c .search .s) (c .loop-l .l)) (c .loop-e .e) (v .count) _ (omega arith) (i .3) (sym (c .overlap .ensures) ∙ c .in-Some .is))) )
+    (first-here (all-overlaps v p) (c .search .s) (length (p .schemas)) _ (omega arith) (i .1)
+    (first-here (overlaps v p (c .search .s)) (c .loop-l .l) (v .count) _ (omega arith) (i .2)
+    (first-here (overlap v p (c .search .s) (c .loop-l .l)) (c .loop-e .e) (v .count) _ (omega arith) (i .3) (sym (c .overlap .ensures) ∙ c .in-Some .is))))

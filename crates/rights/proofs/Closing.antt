@@ -1,11 +1,11 @@
 -- One pass over the parents in their order closes them.
-use mathlib.Core.Bool.{Bool, true, false, cond, _&&_, _||_}
+use mathlib.Core.Bool.{Bool, true, false, _&&_, _||_}
 use mathlib.Core.List.{List, [], _∷_}
 use mathlib.Core.Logic.{⊎-elim}
 use mathlib.Core.Path.{_≡_, refl, sym, _∙_, ap, subst}
 use Prim.Native.Nat.{ℕ, zero, suc, _+_, _<_, _≤_}
 use native.Mathlib.Omega.{arith}
-use lib.Dec.{eqb, ltb}
+use lib.Dec.{eqb}
 use lib.ListN.{length, getD, set}
 use lib.Seq.{getD-set-same, getD-set-other}
 use Rattle.std.proofs.shelf.Tests.{cases-bool, cases-eq, and-left, and-parts, eqb-true, eq-eqb, ne-eqb, ltb-true}
@@ -18,7 +18,7 @@ use Rattle.keyed.specs.Models.{pairLess}
 use Rattle.records.specs.declared.kinds.Parent.{Parent}
 use Rattle.records.specs.Keys.{parentKey}
 use Rattle.policy.specs.Contents.{Content, parentAt}
-use Rattle.policy.specs.Facts.{Upward, Children-in}
+use Rattle.policy.specs.Facts.{Upward}
 use Rattle.rights.specs.Reach.{by-step, reaches}
 use Rattle.rights.specs.Rows.{cell}
 use Rattle.rights.proofs.Reaching.{reaches-step}

@@ -1,7 +1,6 @@
 -- Laws of rights.
-use mathlib.Core.Bool.{Bool, true, _&&_}
-use mathlib.Core.Path.{_≡_, ap}
-use Prim.Native.Nat.{ℕ, _<_}
+use mathlib.Core.Bool.{Bool, _&&_}
+use mathlib.Core.Path.{ap}
 use lib.ListN.{length}
 use Rattle.std.proofs.shelf.Tests.{and-parts, and-from}
 use Rattle.sets.proofs.Bounds.{decides-some, some-same, some-here}

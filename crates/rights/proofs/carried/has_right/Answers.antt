@@ -1,5 +1,4 @@
 -- `has_right`: the first role that lends the right ends the search.
-use mathlib.Core.Bool.{false}
 use mathlib.Core.Path.{_≡_, sym, _∙_, ap}
 use Prim.Native.Nat.{ℕ}
 use native.Mathlib.Omega.{arith}

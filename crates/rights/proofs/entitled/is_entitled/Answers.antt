@@ -1,5 +1,4 @@
 -- `is_entitled`: the first role that raises the badge to the role ends the search.
-use mathlib.Core.Bool.{Bool, false, _||_}
 use mathlib.Core.Path.{_≡_, sym, _∙_, ap}
 use Prim.Native.Nat.{ℕ}
 use native.Mathlib.Omega.{arith}

@@ -22,7 +22,7 @@ use Rattle.std.specs.Results.{isOk}
 use Rattle.plantext.specs.declared.faults.TextFault.{TextFault}
 use Rattle.plantext.specs.declared.page.Heading.{Heading}
 use Rattle.plantext.specs.declared.page.Heading.the-variants.{Drawn, Cells, Zones, Policy}
-use Rattle.plantext.specs.Reading.{Content, headingAt, wordsAt, textOf}
+use Rattle.plantext.specs.Reading.{Content, headingAt, isPolicy, wordsAt, textOf}
 
 -- what f makes of an accepted list
 abbrev pub taken : {X Y : Type 0} → (X → Y) → Result X RecordFault → Option Y
@@ -51,13 +51,6 @@ isZones (Some Policy) = false
 -- section k is a list of zones
 abbrev pub zonesAt : ℕ → Content → Bool
 zonesAt k c = isZones (headingAt k c)
-
-abbrev pub isPolicy : Option Heading → Bool
-isPolicy None = false
-isPolicy (Some Drawn) = false
-isPolicy (Some Cells) = false
-isPolicy (Some Zones) = false
-isPolicy (Some Policy) = true
 
 -- section k is a policy
 abbrev pub policyAt : ℕ → Content → Bool

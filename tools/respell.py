@@ -54,8 +54,9 @@ def declared():
             found = DECLARED.match(line)
             if found and "goal." not in line and "given." not in line and found.group(1) not in KEPT_WORDS:
                 names.add(found.group(1))
-            for more in re.findall(r"^\s*pub ((?:[^\W\d][\w'′-]* )+):", line):
-                names.update(more.split())
+            if "goal." not in line and "given." not in line:
+                for more in re.findall(r"^\s*pub ((?:[^\W\d][\w'′-]* )+):", line):
+                    names.update(more.split())
     for ending in (".antt", ".rt"):
         for path in files(ending):
             for line in open(path, encoding="utf-8"):

@@ -5,8 +5,8 @@ use Rattle.planview.proofs.Steps.{count_yes, count_no}
 use Rattle.planview.proofs.points_of_row.Goals as goal
 use Rattle.planview.proofs.points_of_row.Goals.{then-covers, else-covers}
 
-pub loop_x_preserved : goal.loop_x_preserved
-loop_x_preserved g c =
+pub loop-x-preserved : goal.loop-x-preserved
+loop-x-preserved g c =
     elim c.if-covers.branch [
       | then-covers w ↦ (
         count_yes (λ x. covers_at (g.P.Plan.hall c.args.plan.now) c.args.place x c.args.y) c.loop-x.x c.loop-x.points c.if-covers.points c.loop-x.invariant.0 (sym c.covers.ensures ∙ w.if-covers.true) w.points-is,

@@ -6,16 +6,16 @@ use Rattle.ring.proofs.Rings.{on_skip, on_here, cross_yes, cross_no, covers_on, 
 use Rattle.ring.proofs.covered.Goals.{then-crossed, else-crossed}
 use Rattle.ring.proofs.covered.Goals as goal
 
-pub returns_in_default : goal.returns_in_default
-returns_in_default c = covers_none c.args.corners.now c.args.x c.args.y (omega (arith, ltb-true, leb-true))
+pub returns-in-default : goal.returns-in-default
+returns-in-default c = covers_none c.args.corners.now c.args.x c.args.y (omega (arith, ltb-true, leb-true))
 
-pub returns_then_on_edge : goal.returns_then_on_edge
-returns_then_on_edge c =
+pub returns-then-on-edge : goal.returns-then-on-edge
+returns-then-on-edge c =
     let on = on_here c.loop-to.from c.args.corners.now c.loop-to.to-index c.args.x c.args.y c.loop-to-test.true (sym c.if-on-edge.ensures) in
     covers_on c.args.corners.now (last_of c.args.corners.now) c.args.x c.args.y refl (sym c.loop-to.invariant.0 ∙ on)
 
-pub loop_to_preserved : goal.loop_to_preserved
-loop_to_preserved c =
+pub loop-to-preserved : goal.loop-to-preserved
+loop-to-preserved c =
     let on = on_skip c.loop-to.from c.args.corners.now c.loop-to.to-index c.args.x c.args.y c.loop-to-test.true (sym c.if-on-edge.ensures) in (
       sym on ∙ c.loop-to.invariant.0,
       elim c.if-crossed.branch [

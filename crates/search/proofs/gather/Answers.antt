@@ -4,11 +4,11 @@ use Rattle.sets.proofs.Filled.{filled_none}
 use Rattle.search.proofs.Gathering.{one_more, all_found, is_gathered}
 use Rattle.search.proofs.gather.Goals as goal
 
-pub loop_k_init : goal.loop_k_init
-loop_k_init g c = (filled_none _ c.none-found.result.bits c.none-found.ensures, search rules)
+pub loop-k-init : goal.loop-k-init
+loop-k-init g c = (filled_none _ c.none-found.result.bits c.none-found.ensures, search rules)
 
-pub loop_k_preserved : goal.loop_k_preserved
-loop_k_preserved g c =
+pub loop-k-preserved : goal.loop-k-preserved
+loop-k-preserved g c =
     let f : ℕ → Bool = g.T.Criterion.passes c.args.criterion.now in
     (one_more f c.loop-k.k c.loop-k.found.bits c.noted-found.result.bits c.at.result (omega arith) c.at.ensures c.noted-found.ensures.members c.loop-k.invariant.0, c.noted-found.ensures.fits)
 

@@ -4,14 +4,14 @@ use Rattle.sets.specs.Bounds.{lowest}
 use Rattle.search.proofs.Finding.{lowest_more, lowest_here, lowest_some}
 use Rattle.search.proofs.lowest.Goals as goal
 
-pub returns_then_at : goal.returns_then_at
-returns_then_at g c =
+pub returns-then-at : goal.returns-then-at
+returns-then-at g c =
     let p = g.T.Criterion.passes c.args.criterion.now in
     let here : Some c.loop-k.k ≡ lowest c.args.n p = sym (lowest_here p c.loop-k.k c.args.n (omega arith) c.loop-k.invariant (search rules)) in
     record { value = here; found = ap is_some here ∙ lowest_some p c.args.n }
 
-pub loop_k_preserved : goal.loop_k_preserved
-loop_k_preserved g c = lowest_more (g.T.Criterion.passes c.args.criterion.now) c.loop-k.k c.loop-k.invariant (search rules)
+pub loop-k-preserved : goal.loop-k-preserved
+loop-k-preserved g c = lowest_more (g.T.Criterion.passes c.args.criterion.now) c.loop-k.k c.loop-k.invariant (search rules)
 
 pub returns : goal.returns
 returns g c =

@@ -4,11 +4,11 @@ use Rattle.benchlines.specs.Answers.{hex}
 use Rattle.benchlines.proofs.Hexes.{hex_push}
 use Rattle.benchlines.proofs.answer.word_line.Goals as goal
 
-pub loop_i_init : goal.loop_i_init
-loop_i_init c = ap (λ s. s ++ hex 16 c.args.word) c.in-ok-line.ensures.ok
+pub loop-i-init : goal.loop-i-init
+loop-i-init c = ap (λ s. s ++ hex 16 c.args.word) c.in-ok-line.ensures.ok
 
-pub loop_i_preserved : goal.loop_i_preserved
-loop_i_preserved c =
+pub loop-i-preserved : goal.loop-i-preserved
+loop-i-preserved c =
     hex_push (string_bytes c.loop-i.line) _ _ _ c.args.word c.loop-i.i c.hex-digit.result c.loop-i-test.true
     c.in-ok-push.ensures.bytes (c.in-ok-push.ensures.ascii c.hex-digit.ensures.ascii) c.hex-digit.ensures.value c.loop-i.invariant
 

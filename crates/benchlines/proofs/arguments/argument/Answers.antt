@@ -5,16 +5,16 @@ use Rattle.benchlines.specs.Arguments.{argument_of, space}
 use Rattle.benchlines.proofs.Steps.{argument_step}
 use Rattle.benchlines.proofs.arguments.argument.Goals as goal
 
-pub returns_then_at_line : goal.returns_then_at_line
-returns_then_at_line c = sym (at_drop_all (argument_of c.args.most) c.args.line.now c.args.at (omega arith))
+pub returns-then-at-line : goal.returns-then-at-line
+returns-then-at-line c = sym (at_drop_all (argument_of c.args.most) c.args.line.now c.args.at (omega arith))
 
-pub returns_then_line_at_ne32 : goal.returns_then_line_at_ne32
-returns_then_line_at_ne32 c =
+pub returns-then-line-at-ne32 : goal.returns-then-line-at-ne32
+returns-then-line-at-ne32 c =
     sym (cond-false _ _ _ (ne_eqb (get_or c.args.line.now c.args.at 0) space c.if-line-at-ne32.true))
     ∙ sym (at_drop_more (argument_of c.args.most) c.args.line.now c.args.at 0 (omega arith))
 
-pub returns_in_default : goal.returns_in_default
-returns_in_default c = argument_step c.args.line.now c.args.at c.args.most _ (omega arith) c.if-line-at-ne32.false c.in-default.ensures.value
+pub returns-in-default : goal.returns-in-default
+returns-in-default c = argument_step c.args.line.now c.args.at c.args.most _ (omega arith) c.if-line-at-ne32.false c.in-default.ensures.value
 
 pub returns : goal.returns
 returns c = c.digits.ensures ∙ argument_step c.args.line.now c.args.at c.args.most _ (omega arith) c.if-line-at-ne32.false c.in-Some.ensures.value

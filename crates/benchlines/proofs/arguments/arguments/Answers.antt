@@ -4,19 +4,19 @@ use Rattle.benchlines.specs.Arguments.{arguments_of}
 use Rattle.benchlines.proofs.Steps.{after, after_none, arguments_step, arguments_break, arguments_more, arguments_end}
 use Rattle.benchlines.proofs.arguments.arguments.Goals as goal
 
-pub loop_i_init : goal.loop_i_init
-loop_i_init g c =
+pub loop-i-init : goal.loop-i-init
+loop-i-init g c =
     let z : g.row.N - 0 ≡ g.row.N = omega arith in
     (after_none _ ∙ ap (λ n. arguments_of c.args.most n (drop c.args.from c.args.line.now)) z, length-replicate g.row.N 0)
 
-pub returns_in_err_number : goal.returns_in_err_number
-returns_in_err_number g c =
+pub returns-in-err-number : goal.returns-in-err-number
+returns-in-err-number g c =
     c.from-residual.ensures
     ∙ arguments_break (take c.loop-i.i c.loop-i.numbers) (drop c.loop-i.at c.args.line.now) c.args.most (g.row.N - c.loop-i.i) (omega arith) c.in-err-number.ensures
     ∙ c.loop-i.invariant.0
 
-pub loop_i_preserved : goal.loop_i_preserved
-loop_i_preserved g c =
+pub loop-i-preserved : goal.loop-i-preserved
+loop-i-preserved g c =
     let z : g.row.N - (c.loop-i.i + 1) ≡ g.row.N - c.loop-i.i - 1 = omega arith in
     let n = c.in-ok-number.number in
     let rest = drop c.in-ok-number.after c.args.line.now in (
@@ -27,8 +27,8 @@ loop_i_preserved g c =
       length-set c.loop-i.numbers c.loop-i.i n ∙ c.loop-i.invariant.1,
     )
 
-pub returns_then_at_line : goal.returns_then_at_line
-returns_then_at_line g c =
+pub returns-then-at-line : goal.returns-then-at-line
+returns-then-at-line g c =
     arguments_more (take c.loop-i.i c.loop-i.numbers) c.args.line.now c.args.most (g.row.N - c.loop-i.i) c.loop-i.at (omega arith) c.if-at-line.true
     ∙ c.loop-i.invariant.0
 

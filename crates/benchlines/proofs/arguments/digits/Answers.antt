@@ -5,16 +5,16 @@ use Rattle.benchlines.proofs.Steps.{digits_step, digits_end}
 use Rattle.benchlines.proofs.arguments.digits.Goals as goal
 use Rattle.benchlines.proofs.arguments.digits.Goals.{else-loop-left-test, then-loop-left-test+in-default}
 
-pub loop_left_preserved : goal.loop_left_preserved
-loop_left_preserved c = (
+pub loop-left-preserved : goal.loop-left-preserved
+loop-left-preserved c = (
   sym (cond-true _ _ _ (le-leb _ _ c.if-number-gt-MOST-NUMBER.false))
       ∙ sym (digits_step c.args.line.now c.loop-left.at c.loop-left.left c.loop-left.number c.in-Some.d (omega arith) c.in-Some.ensures.value)
       ∙ c.loop-left.invariant.0,
   c.if-number-gt-MOST-NUMBER.false,
 )
 
-pub returns_then_number_gt_MOST_NUMBER : goal.returns_then_number_gt_MOST_NUMBER
-returns_then_number_gt_MOST_NUMBER c =
+pub returns-then-number-gt-MOST-NUMBER : goal.returns-then-number-gt-MOST-NUMBER
+returns-then-number-gt-MOST-NUMBER c =
     sym (cond-false _ _ _ (lt-leb _ _ c.if-number-gt-MOST-NUMBER.true))
     ∙ sym (digits_step c.args.line.now c.loop-left.at c.loop-left.left c.loop-left.number c.in-Some.d (omega arith) c.in-Some.ensures.value)
     ∙ c.loop-left.invariant.0

@@ -6,8 +6,8 @@ use Rattle.benchrun.specs.Hall.{hall_of_plan}
 use Rattle.benchrun.proofs.Accepted.{never_refused, ready}
 use Rattle.benchrun.proofs.hall.built_in.Goals as goal
 
-pub returns_in_err_seal : goal.returns_in_err_seal
-returns_in_err_seal c =
+pub returns-in-err-seal : goal.returns-in-err-seal
+returns-in-err-seal c =
     let v = c.in-ok-guard.guard in
     let new = c.in-ok-guard.ensures in
     absurd

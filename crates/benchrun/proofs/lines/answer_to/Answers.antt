@@ -6,8 +6,8 @@ use Rattle.benchrun.specs.Printed.{text_of}
 use Rattle.benchrun.proofs.Putting.{appended, prints, prints_on}
 use Rattle.benchrun.proofs.lines.answer_to.Goals as goal
 
-pub returns_in_err_text : goal.returns_in_err_text
-returns_in_err_text g c =
+pub returns-in-err-text : goal.returns-in-err-text
+returns-in-err-text g c =
     let told = c.put.ensures in
     let v = c.args.guard.now in
     let h = g.P.Plan.hall v.site.plan in

@@ -3,8 +3,8 @@ use Rattle.benchlines.specs.Lines.{line_call}
 use Rattle.benchrun.proofs.Putting.{puts, goes_on}
 use Rattle.benchrun.proofs.lines.put.Goals as goal
 
-pub returns_in_Some : goal.returns_in_Some
-returns_in_Some g c =
+pub returns-in-Some : goal.returns-in-Some
+returns-in-Some g c =
     let v = c.args.guard.now in
     let h = g.P.Plan.hall v.site.plan in
     let made = line_call c.args.line.now in

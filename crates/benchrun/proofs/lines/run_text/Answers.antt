@@ -5,8 +5,8 @@ use Rattle.benchlines.specs.Input.{lines_of, left}
 use Rattle.benchrun.proofs.Running.{one_more, all_printed}
 use Rattle.benchrun.proofs.lines.run_text.Goals as goal
 
-pub loop_line_preserved : goal.loop_line_preserved
-loop_line_preserved g c =
+pub loop-line-preserved : goal.loop-line-preserved
+loop-line-preserved g c =
     let rest = left c.next.new.self in
     one_more
     (λ p. g.P.Plan.hall p)

@@ -5,13 +5,13 @@ use Rattle.benchrun.specs.Hall.{LacksMemory}
 use Rattle.benchrun.proofs.Accepted.{handed_on, ready_prints}
 use Rattle.benchrun.proofs.session.session.Goals as goal
 
-pub returns_in_err_guard : goal.returns_in_err_guard
-returns_in_err_guard c =
+pub returns-in-err-guard : goal.returns-in-err-guard
+returns-in-err-guard c =
     let p = err_from_is_err_and c.from-residual.result c.from-residual.ensures.1 in
     handed_on _ c.from-residual.result _ p.0 p.1 (subst LacksMemory (sym p.2) c.in-err-guard.ensures)
 
-pub returns_in_err_run_text : goal.returns_in_err_run_text
-returns_in_err_run_text c =
+pub returns-in-err-run-text : goal.returns-in-err-run-text
+returns-in-err-run-text c =
     let p = err_from_is_err_and c.from-residual-in-err-run-text.result c.from-residual-in-err-run-text.ensures.1 in
     handed_on _ c.from-residual-in-err-run-text.result _ p.0 p.1 (subst LacksMemory (sym p.2) tt)
 

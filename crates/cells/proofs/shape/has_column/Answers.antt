@@ -4,8 +4,8 @@ use Rattle.std.proofs.lemmas.Bool.{le-ltb}
 use Rattle.sets.proofs.Bits.{member_past}
 use Rattle.cells.proofs.shape.has_column.Goals as goal
 
-pub returns_then_column_lt16 : goal.returns_then_column_lt16
-returns_then_column_lt16 c = ap (λ (n : ℕ). eqb n 1) (and_mask _ 1)
+pub returns-then-column-lt16 : goal.returns-then-column-lt16
+returns-then-column-lt16 c = ap (λ (n : ℕ). eqb n 1) (and_mask _ 1)
 
-pub returns_else_column_lt16 : goal.returns_else_column_lt16
-returns_else_column_lt16 c = le-ltb c.args.column 16 (omega arith) ∙ sym (member_past c.args.row 16 c.args.column (search rules) (omega arith))
+pub returns-else-column-lt16 : goal.returns-else-column-lt16
+returns-else-column-lt16 c = le-ltb c.args.column 16 (omega arith) ∙ sym (member_past c.args.row 16 c.args.column (search rules) (omega arith))

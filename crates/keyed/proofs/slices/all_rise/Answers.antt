@@ -2,8 +2,8 @@ use Rattle.std.proofs.Common.{◌≡◌, ◌-◌, true, false, length, drop, sym
 use Rattle.keyed.proofs.Rising.{rises_at, falls_at, short_rises}
 use Rattle.keyed.proofs.slices.all_rise.Goals as goal
 
-pub returns_then_not_rises : goal.returns_then_not_rises
-returns_then_not_rises g c =
+pub returns-then-not-rises : goal.returns-then-not-rises
+returns-then-not-rises g c =
     let less = g.R.Key.KeyOrder.less in
     let key = g.R.Keyed.keyed in
     let x = c.index-records-i.result in
@@ -11,8 +11,8 @@ returns_then_not_rises g c =
     let e : less (key x) (key y) ≡ false = ap (λ a. less a (key y)) (sym c.key.ensures) ∙ ap (less c.key.result) (sym c.key-in-loop-i.ensures) ∙ sym c.below-rises.ensures ∙ c.if-not-rises.true in
     sym (falls_at less key c.args.records.now c.loop-i.i x y (omega arith) c.loop-i-test.true c.index-records-i.is c.index-records-i-in-loop-i.is e) ∙ c.loop-i.invariant
 
-pub loop_i_preserved : goal.loop_i_preserved
-loop_i_preserved g c =
+pub loop-i-preserved : goal.loop-i-preserved
+loop-i-preserved g c =
     let less = g.R.Key.KeyOrder.less in
     let key = g.R.Keyed.keyed in
     let x = c.index-records-i.result in

@@ -5,8 +5,8 @@ use Rattle.keyed.specs.Orders.{alike}
 use Rattle.keyed.proofs.Rising.{low_more, high_more, found, missing}
 use Rattle.keyed.proofs.slices.find.Goals as goal
 
-pub loop_low_preserved_then_below : goal.loop_low_preserved_then_below
-loop_low_preserved_then_below g c =
+pub loop-low-preserved-then-below : goal.loop-low-preserved-then-below
+loop-low-preserved-then-below g c =
     let less = g.R.Key.KeyOrder.less in
     let mid = c.loop-low.low + (c.loop-low.high - c.loop-low.low) / 2 in
     let lt : mid < length c.args.records.now = omega arith in
@@ -16,8 +16,8 @@ loop_low_preserved_then_below g c =
       c.loop-low.invariant.2,
     )
 
-pub loop_low_preserved : goal.loop_low_preserved
-loop_low_preserved g c =
+pub loop-low-preserved : goal.loop-low-preserved
+loop-low-preserved g c =
     let less = g.R.Key.KeyOrder.less in
     let mid = c.loop-low.low + (c.loop-low.high - c.loop-low.low) / 2 in
     let lt : mid < length c.args.records.now = omega arith in
@@ -27,8 +27,8 @@ loop_low_preserved g c =
       λ up. high_more less g.R.Keyed.keyed g.met.R.Key.KeyOrder.transitive c.args.records.now c.args.key.now mid c.index-records-mid.result up lt c.index-records-mid.is e,
     )
 
-pub returns_else_below_2 : goal.returns_else_below_2
-returns_else_below_2 g c =
+pub returns-else-below-2 : goal.returns-else-below-2
+returns-else-below-2 g c =
     let less = g.R.Key.KeyOrder.less in
     let key = g.R.Keyed.keyed in
     let k = c.args.key.now in

@@ -4,12 +4,12 @@ use Rattle.keyed.specs.Orders.{follows}
 use Rattle.keyed.proofs.Rising.{follows_last}
 use Rattle.keyed.proofs.slices.may_follow.Goals as goal
 
-pub returns_in_empty : goal.returns_in_empty
-returns_in_empty g c =
+pub returns-in-empty : goal.returns-in-empty
+returns-in-empty g c =
     sym (ap (λ xs. follows g.R.Key.KeyOrder.less g.R.Keyed.keyed xs c.args.key.now) (nil_from_length c.args.records.now (omega (arith, ltb-true))))
 
-pub returns_in_len1_up : goal.returns_in_len1_up
-returns_in_len1_up g c =
+pub returns-in-len1-up : goal.returns-in-len1-up
+returns-in-len1-up g c =
     let less = g.R.Key.KeyOrder.less in
     let k = c.args.key.now in
     c.below.ensures ∙ ap (λ a. less a k) c.key.ensures

@@ -7,11 +7,11 @@ use Rattle.plan.proofs.Rows.{covers_past}
 use Rattle.plan.proofs.Plan.places_at.Goals.{then-covers, else-covers}
 use Rattle.plan.proofs.Plan.places_at.Goals as goal
 
-pub loop_k_init : goal.loop_k_init
-loop_k_init g c = filled_none _ c.none-found.result.bits c.none-found.ensures
+pub loop-k-init : goal.loop-k-init
+loop-k-init g c = filled_none _ c.none-found.result.bits c.none-found.ensures
 
-pub loop_k_preserved : goal.loop_k_preserved
-loop_k_preserved g c =
+pub loop-k-preserved : goal.loop-k-preserved
+loop-k-preserved g c =
     let f : ℕ → Bool = λ k. covers_at (g.Self.Plan.hall c.args.self.now) k c.args.x c.args.y in
     let few = g.met.Self.Plan.few c.args.self.now in
     let low : c.loop-k.k < 64 = omega arith in

@@ -3,17 +3,17 @@ use Rattle.std.proofs.Common.{arith}
 use Rattle.plantext.proofs.Numbers.{bad_digit, next_digit, no_digit, grows, fits}
 use Rattle.plantext.proofs.digits.hex.Goals as goal
 
-pub returns_in_default : goal.returns_in_default
-returns_in_default c = bad_digit c.args.word.now c.loop-byte.byte-index c.loop-byte.value c.loop-byte-test.true (omega arith) c.loop-byte.invariant.0 c.in-default.ensures.value
+pub returns-in-default : goal.returns-in-default
+returns-in-default c = bad_digit c.args.word.now c.loop-byte.byte-index c.loop-byte.value c.loop-byte-test.true (omega arith) c.loop-byte.invariant.0 c.in-default.ensures.value
 
-pub overflow_mul_value : goal.overflow_mul_value
-overflow_mul_value c = let f = fits c.loop-byte.value 0 c.loop-byte.byte-index c.loop-byte.invariant.1 (omega arith) (omega arith) in omega arith
+pub overflow-mul-value : goal.overflow-mul-value
+overflow-mul-value c = let f = fits c.loop-byte.value 0 c.loop-byte.byte-index c.loop-byte.invariant.1 (omega arith) (omega arith) in omega arith
 
-pub overflow_add_value : goal.overflow_add_value
-overflow_add_value c = let f = fits c.loop-byte.value c.in-Some.digit c.loop-byte.byte-index c.loop-byte.invariant.1 c.in-Some.ensures.small (omega arith) in omega arith
+pub overflow-add-value : goal.overflow-add-value
+overflow-add-value c = let f = fits c.loop-byte.value c.in-Some.digit c.loop-byte.byte-index c.loop-byte.invariant.1 c.in-Some.ensures.small (omega arith) in omega arith
 
-pub loop_byte_preserved : goal.loop_byte_preserved
-loop_byte_preserved c = (
+pub loop-byte-preserved : goal.loop-byte-preserved
+loop-byte-preserved c = (
   next_digit c.args.word.now c.loop-byte.byte-index c.loop-byte.value c.in-Some.digit c.loop-byte-test.true c.loop-byte.invariant.0 c.in-Some.ensures.value,
   grows c.loop-byte.value c.in-Some.digit c.loop-byte.byte-index c.loop-byte.invariant.1 c.in-Some.ensures.small,
 )

@@ -4,8 +4,8 @@ use Rattle.std.proofs.lemmas.List.{take_rest, length-take, length-drop}
 use Rattle.plantext.proofs.Cuts.{before_found, after_found, before_more, after_more, before_all, after_all}
 use Rattle.plantext.proofs.parts.cut.Goals as goal
 
-pub returns_then_b_stop : goal.returns_then_b_stop
-returns_then_b_stop c =
+pub returns-then-b-stop : goal.returns-then-b-stop
+returns-then-b-stop c =
     let xs = c.args.bytes.now in
     let i = c.loop-i.i in
     record {
@@ -15,8 +15,8 @@ returns_then_b_stop c =
       less = λ _. simp (take_rest, length-drop) (omega arith);
     }
 
-pub loop_i_preserved : goal.loop_i_preserved
-loop_i_preserved c = (
+pub loop-i-preserved : goal.loop-i-preserved
+loop-i-preserved c = (
   before_more c.args.stop c.args.bytes.now c.loop-i.i c.loop-i-test.true c.if-b-stop.false c.loop-i.invariant.0,
   after_more c.args.stop c.args.bytes.now c.loop-i.i c.loop-i-test.true c.if-b-stop.false c.loop-i.invariant.1,
 )

@@ -5,8 +5,8 @@ use Rattle.plantext.specs.Parts.{words_of}
 use Rattle.plantext.proofs.Cuts.{some_from, none_from, word_found, word_skipped}
 use Rattle.plantext.proofs.parts.next_word.Goals as goal
 
-pub returns_then_not_is_empty : goal.returns_then_not_is_empty
-returns_then_not_is_empty c =
+pub returns-then-not-is-empty : goal.returns-then-not-is-empty
+returns-then-not-is-empty c =
     let more = some_from _ _ c.is-empty.ensures c.loop-left-test.true in
     let e = c.cut.ensures in
     let less = e.less more in
@@ -15,8 +15,8 @@ returns_then_not_is_empty c =
       less = omega (arith, less, c.loop-left.invariant.1);
     }
 
-pub loop_left_preserved : goal.loop_left_preserved
-loop_left_preserved c =
+pub loop-left-preserved : goal.loop-left-preserved
+loop-left-preserved c =
     let more = some_from _ _ c.is-empty.ensures c.loop-left-test.true in
     let e = c.cut.ensures in
     let less = e.less more in (

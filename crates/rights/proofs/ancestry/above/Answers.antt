@@ -10,11 +10,11 @@ use Rattle.rights.proofs.Counts.{roles_few}
 use Rattle.rights.proofs.ancestry.above.Goals.{then-is-above, else-is-above}
 use Rattle.rights.proofs.ancestry.above.Goals as goal
 
-pub loop_a_init : goal.loop_a_init
-loop_a_init c = filled_none _ c.none-found.result.bits c.none-found.ensures
+pub loop-a-init : goal.loop-a-init
+loop-a-init c = filled_none _ c.none-found.result.bits c.none-found.ensures
 
-pub loop_a_preserved : goal.loop_a_preserved
-loop_a_preserved c =
+pub loop-a-preserved : goal.loop-a-preserved
+loop-a-preserved c =
     let f : ℕ → Bool = ancestor_by (cell c.args.reach.now) (cell c.args.lies.now) (says c.args.policy.now) c.args.r in
     elim c.if-is-above.branch [
       | then-is-above w ↦ subst (λ (s : Set64). Filled f (c.loop-a.a + 1) s.bits) (sym w.found-is) (filled_with f c.loop-a.a c.loop-a.found.bits w.with-found.result.bits (omega (arith, roles_few c.args.policy.now)) (sym w.if-is-above.ensures) w.with-found.ensures c.loop-a.invariant)

@@ -10,8 +10,8 @@ use Rattle.rights.proofs.Counts.{roles_few}
 use Rattle.rights.proofs.Entries.{cell_past}
 use Rattle.rights.proofs.ancestry.ancestors.Goals as goal
 
-pub loop_r_preserved : goal.loop_r_preserved
-loop_r_preserved c = (
+pub loop-r-preserved : goal.loop-r-preserved
+loop-r-preserved c = (
   simp length-set c.loop-r.invariant.0,
   (λ r a l.
       ⊎_elim

@@ -7,11 +7,11 @@ use Rattle.rights.specs.Rights.{lends}
 use Rattle.rights.specs.Rows.{cell}
 use Rattle.rights.proofs.carried.has_right.Goals as goal
 
-pub loop_a_preserved : goal.loop_a_preserved
-loop_a_preserved c = some_more (lends (cell c.args.above.now) (says c.args.policy.now) c.args.role c.args.operation c.args.object) c.loop-a.a c.loop-a.invariant (sym c.if-lends.ensures)
+pub loop-a-preserved : goal.loop-a-preserved
+loop-a-preserved c = some_more (lends (cell c.args.above.now) (says c.args.policy.now) c.args.role c.args.operation c.args.object) c.loop-a.a c.loop-a.invariant (sym c.if-lends.ensures)
 
-pub returns_then_lends : goal.returns_then_lends
-returns_then_lends c =
+pub returns-then-lends : goal.returns-then-lends
+returns-then-lends c =
     sym (some_here (lends (cell c.args.above.now) (says c.args.policy.now) c.args.role c.args.operation c.args.object) c.loop-a.a (length (says c.args.policy.now).roles) (omega arith) (sym c.if-lends.ensures))
 
 pub returns : goal.returns

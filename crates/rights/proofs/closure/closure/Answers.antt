@@ -5,8 +5,8 @@ use Rattle.rights.proofs.Counts.{child_in}
 use Rattle.rights.proofs.Closing.{closed_by, closed_all}
 use Rattle.rights.proofs.closure.closure.Goals as goal
 
-pub loop_k_preserved : goal.loop_k_preserved
-loop_k_preserved c =
+pub loop-k-preserved : goal.loop-k-preserved
+loop-k-preserved c =
     let p = c.args.policy.now in (
       simp length-set c.loop-k.invariant.0,
       closed_by (says p) p.kept.upward p.kept.parents_rise c.loop-k.k c.loop-k.rows c.or.result c.parent-step.result c.parent-step.ensures (omega arith) c.loop-k.invariant.0 c.loop-k.invariant.1 (child_in p c.loop-k.k (omega arith)) c.or.ensures,

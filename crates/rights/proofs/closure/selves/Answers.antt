@@ -6,8 +6,8 @@ use Rattle.sets.specs.Member.{member}
 use Rattle.sets.proofs.Filled.{with_below}
 use Rattle.rights.proofs.closure.selves.Goals as goal
 
-pub loop_s_preserved : goal.loop_s_preserved
-loop_s_preserved c = (
+pub loop-s-preserved : goal.loop-s-preserved
+loop-s-preserved c = (
   simp length-set c.loop-s.invariant.0,
   (λ s a l.
       ⊎_elim

@@ -8,11 +8,11 @@ use Rattle.rights.specs.Entitlement.{assigned, raises}
 use Rattle.rights.specs.Rows.{cell}
 use Rattle.rights.proofs.entitled.is_entitled.Goals as goal
 
-pub loop_r_preserved : goal.loop_r_preserved
-loop_r_preserved c = some_more (raises (cell c.args.above.now) (says c.args.policy.now) c.args.badge c.args.role) c.loop-r.r c.loop-r.invariant (sym c.if-raises.ensures)
+pub loop-r-preserved : goal.loop-r-preserved
+loop-r-preserved c = some_more (raises (cell c.args.above.now) (says c.args.policy.now) c.args.badge c.args.role) c.loop-r.r c.loop-r.invariant (sym c.if-raises.ensures)
 
-pub returns_then_raises : goal.returns_then_raises
-returns_then_raises c =
+pub returns-then-raises : goal.returns-then-raises
+returns-then-raises c =
     let p = says c.args.policy.now in
     sym (or_right (assigned p c.args.badge c.args.role) _ (some_here (raises (cell c.args.above.now) p c.args.badge c.args.role) c.loop-r.r (length p.roles) (omega arith) (sym c.if-raises.ensures)))
 

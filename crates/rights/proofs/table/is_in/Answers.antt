@@ -4,7 +4,7 @@ use Rattle.std.proofs.lemmas.Bool.{le-ltb}
 use Rattle.rights.proofs.Entries.{cell_past}
 use Rattle.rights.proofs.table.is_in.Goals as goal
 
-pub returns_else_i_rows : goal.returns_else_i_rows
-returns_else_i_rows c =
+pub returns-else-i-rows : goal.returns-else-i-rows
+returns-else-i-rows c =
     let past : length c.args.rows.now ≤ c.args.i = omega (arith, ltb-false) in
     le-ltb c.args.i (length c.args.rows.now) past ∙ sym (cell_past c.args.rows.now c.args.i c.args.j past)

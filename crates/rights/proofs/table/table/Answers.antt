@@ -7,8 +7,8 @@ use Rattle.rights.specs.Rows.{cell}
 use Rattle.rights.proofs.Entries.{cell_past}
 use Rattle.rights.proofs.table.table.Goals as goal
 
-pub loop_i_preserved : goal.loop_i_preserved
-loop_i_preserved g c = (
+pub loop-i-preserved : goal.loop-i-preserved
+loop-i-preserved g c = (
   simp length-set c.loop-i.invariant.0,
   (λ i j l.
       ⊎_elim

@@ -5,8 +5,8 @@ use Rattle.std.proofs.lemmas.Bool.{le-ltb}
 use Rattle.sets.proofs.Bits.{member_past}
 use Rattle.sets.proofs.Set64.has.Goals as goal
 
-pub returns_then_k_lt64 : goal.returns_then_k_lt64
-returns_then_k_lt64 c = ap (λ (n : ℕ). eqb n 1) (and_mask _ 1)
+pub returns-then-k-lt64 : goal.returns-then-k-lt64
+returns-then-k-lt64 c = ap (λ (n : ℕ). eqb n 1) (and_mask _ 1)
 
-pub returns_else_k_lt64 : goal.returns_else_k_lt64
-returns_else_k_lt64 c = le-ltb c.args.k 64 (omega arith) ∙ sym (member_past c.args.self.bits 64 c.args.k (search rules) (omega arith))
+pub returns-else-k-lt64 : goal.returns-else-k-lt64
+returns-else-k-lt64 c = le-ltb c.args.k 64 (omega arith) ∙ sym (member_past c.args.self.bits 64 c.args.k (search rules) (omega arith))

@@ -7,8 +7,8 @@ use Rattle.sets.specs.Member.{member}
 use Rattle.sets.proofs.Bits.{member_or, member_pow}
 use Rattle.sets.proofs.Set64.with.Goals as goal
 
-pub returns_then_k_lt64 : goal.returns_then_k_lt64
-returns_then_k_lt64 c j =
+pub returns-then-k-lt64 : goal.returns-then-k-lt64
+returns-then-k-lt64 c j =
     let low : c.args.k < 64 = omega arith in
     ap (λ (n : ℕ). member (bit_or c.args.self.bits n) j) (one_shl c.args.k 64 low)
     ∙ member_or c.args.self.bits _ j

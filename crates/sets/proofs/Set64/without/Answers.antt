@@ -7,8 +7,8 @@ use Rattle.sets.specs.Member.{member}
 use Rattle.sets.proofs.Bits.{member_without}
 use Rattle.sets.proofs.Set64.without.Goals as goal
 
-pub returns_then_k_lt64 : goal.returns_then_k_lt64
-returns_then_k_lt64 c j =
+pub returns-then-k-lt64 : goal.returns-then-k-lt64
+returns-then-k-lt64 c j =
     let low : c.args.k < 64 = omega arith in
     ap (λ (n : ℕ). member (bit_and c.args.self.bits (2 ^ 64 - 1 - n)) j) (one_shl c.args.k 64 low)
     ∙ member_without 64 c.args.self.bits c.args.k j (search rules) low

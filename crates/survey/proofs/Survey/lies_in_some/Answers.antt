@@ -6,11 +6,11 @@ use Rattle.survey.specs.Kept.{kept_holds, kept_lies_in_some}
 use Rattle.survey.proofs.Ties.{lies_in_some_tied}
 use Rattle.survey.proofs.Survey.lies_in_some.Goals as goal
 
-pub loop_other_preserved : goal.loop_other_preserved
-loop_other_preserved c = some_more (kept_holds c.args.self.now c.args.ty c.args.place) c.loop-other.other c.loop-other.invariant (sym c.if-holds.ensures)
+pub loop-other-preserved : goal.loop-other-preserved
+loop-other-preserved c = some_more (kept_holds c.args.self.now c.args.ty c.args.place) c.loop-other.other c.loop-other.invariant (sym c.if-holds.ensures)
 
-pub returns_then_holds : goal.returns_then_holds
-returns_then_holds c =
+pub returns-then-holds : goal.returns-then-holds
+returns-then-holds c =
     let s = c.args.self.now in
     let e : true ≡ kept_lies_in_some s c.args.ty c.args.place = sym (some_here (kept_holds s c.args.ty c.args.place) c.loop-other.other s.count (omega arith) (sym c.if-holds.ensures)) in
     record { kept = e; meant = λ h tied. e ∙ lies_in_some_tied h s tied c.args.ty c.args.place }

@@ -5,8 +5,8 @@ use Rattle.survey.proofs.Pass.{lies_start, shares_start, lies_point, shares_poin
 use Rattle.survey.proofs.Ties.{survey_from, tied_from}
 use Rattle.survey.proofs.Survey.of.Goals as goal
 
-pub loop_y_init : goal.loop_y_init
-loop_y_init g c =
+pub loop-y-init : goal.loop-y-init
+loop-y-init g c =
     let h = g.P.Plan.hall c.args.plan.now in (
       whole_replicate c.all-lies.result (search rules),
       whole_replicate c.none-shares.result (search rules),
@@ -14,8 +14,8 @@ loop_y_init g c =
       shares_start h c.none-shares.result c.none-shares.ensures,
     )
 
-pub loop_x_preserved : goal.loop_x_preserved
-loop_x_preserved g c =
+pub loop-x-preserved : goal.loop-x-preserved
+loop-x-preserved g c =
     let h = g.P.Plan.hall c.args.plan.now in
     let at = c.places-at-at.result.bits in
     let n = c.count-count.result in (
@@ -25,8 +25,8 @@ loop_x_preserved g c =
       shares_point h at n c.loop-x.x c.loop-y.y c.loop-x.shares c.note.new.shares c.count-count.ensures c.places-at-at.ensures c.note.ensures.common c.loop-x.invariant.3,
     )
 
-pub loop_y_preserved : goal.loop_y_preserved
-loop_y_preserved g c =
+pub loop-y-preserved : goal.loop-y-preserved
+loop-y-preserved g c =
     let h = g.P.Plan.hall c.args.plan.now in
     let done : c.loop-x.x ≡ h.width = omega arith in (
       c.loop-x.invariant.0,

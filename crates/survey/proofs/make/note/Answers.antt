@@ -4,11 +4,11 @@ use Rattle.survey.specs.Entries.{Changed, still_lies, now_shares}
 use Rattle.survey.proofs.Cells.{changed_none, changed_more, whole_set}
 use Rattle.survey.proofs.make.note.Goals as goal
 
-pub loop_i_init : goal.loop_i_init
-loop_i_init c = (search rules, search rules, λ w. w, λ w. w, changed_none (still_lies c.args.at.bits) c.args.lies.now, changed_none (now_shares c.args.at.bits) c.args.shares.now)
+pub loop-i-init : goal.loop-i-init
+loop-i-init c = (search rules, search rules, λ w. w, λ w. w, changed_none (still_lies c.args.at.bits) c.args.lies.now, changed_none (now_shares c.args.at.bits) c.args.shares.now)
 
-pub loop_i_preserved : goal.loop_i_preserved
-loop_i_preserved c =
+pub loop-i-preserved : goal.loop-i-preserved
+loop-i-preserved c =
     let at = c.args.at.bits in
     let i = c.loop-i.i in
     let l : i < length c.loop-i.lies = omega arith in

@@ -3,8 +3,8 @@ use Rattle.std.proofs.Common.{◌≡◌, None, ◌∙◌, ⊎_elim, arith, lengt
 use Rattle.std.proofs.lemmas.Bool.{cases_eq}
 use Rattle.survey.proofs.make.types_of.Goals as goal
 
-pub loop_place_preserved : goal.loop_place_preserved
-loop_place_preserved g c = (
+pub loop-place-preserved : goal.loop-place-preserved
+loop-place-preserved g c = (
   simp length-set c.loop-place.invariant.0,
   (λ k l.
       ⊎_elim

@@ -5,18 +5,18 @@ use Rattle.wordlist.proofs.Parts.{cut_less}
 use Rattle.wordlist.proofs.Runs.{record_taken, record_refused}
 use Rattle.wordlist.proofs.list.read.Goals as goal
 
-pub loop_record_smaller : goal.loop_record_smaller
-loop_record_smaller g c = cut_less _ c.loop-record.reader.left.now _ _ c.in-Some.ensures.cut c.in-Some.ensures.left
+pub loop-record-smaller : goal.loop-record-smaller
+loop-record-smaller g c = cut_less _ c.loop-record.reader.left.now _ _ c.in-Some.ensures.cut c.in-Some.ensures.left
 
-pub loop_record_preserved : goal.loop_record_preserved
-loop_record_preserved g c =
+pub loop-record-preserved : goal.loop-record-preserved
+loop-record-preserved g c =
     let n = c.in-Some.ensures in (
       c.loop-record.invariant.0 ∙ record_taken g.L.WordList.rules _ _ c.loop-record.reader.index _ _ c.loop-record.reader.left.now _ _ n.cut n.left n.index c.in-ok-take-record.ensures,
       n.index ∙ c.loop-record.invariant.1,
     )
 
-pub returns_in_err_take_record : goal.returns_in_err_take_record
-returns_in_err_take_record g c =
+pub returns-in-err-take-record : goal.returns-in-err-take-record
+returns-in-err-take-record g c =
     let p = err_from_is_err_and c.from-residual.result c.from-residual.ensures.1 in
     let n = c.in-Some.ensures in
     rw (p.1, p.2)

@@ -5,8 +5,8 @@ use Rattle.benchlines.proofs.Feeds.{lines_none, lines_first, lines_passed, lines
 use Rattle.benchlines.proofs.input.Lines.next.Goals as goal
 use Rattle.benchlines.proofs.input.Lines.next.Goals.{then-end-self, else-end-self}
 
-pub returns_then_is_over : goal.returns_then_is_over
-returns_then_is_over c =
+pub returns-then-is-over : goal.returns-then-is-over
+returns-then-is-over c =
     let none = lines_none c.args.self.now.input.now c.args.self.now.at (leb-true _ _ (sym c.if-is-over.ensures)) in
     record { line = sym (ap first none); rest = none ∙ sym (ap others none); fewer = tt }
 

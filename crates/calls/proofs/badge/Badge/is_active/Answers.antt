@@ -2,5 +2,5 @@
 use Rattle.calls.proofs.Sessions.{none_active}
 use Rattle.calls.proofs.badge.Badge.is_active.Goals as goal
 
-pub returns_in_None : goal.returns_in_None
-returns_in_None c = none_active c.args.self.now c.args.session c.args.role c.in-None.ensures.lookup.0
+pub returns-in-None : goal.returns-in-None
+returns-in-None c = none_active c.args.self.now c.args.session c.args.role c.in-None.ensures.lookup.0

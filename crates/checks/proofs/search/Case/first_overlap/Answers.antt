@@ -7,31 +7,31 @@ use Rattle.checks.specs.Sight.{kept}
 use Rattle.checks.specs.Faults.{overlap, overlaps, all_overlaps}
 use Rattle.checks.proofs.search.Case.first_overlap.Goals as goal
 
-pub loop_e_preserved : goal.loop_e_preserved
-loop_e_preserved c =
+pub loop-e-preserved : goal.loop-e-preserved
+loop-e-preserved c =
     let v = kept c.args.self.survey.now in
     let p = says c.args.self.policy.now in
     let i = c.loop-e.invariant in
     (i.0, i.1, i.2, first_more (overlap v p c.search.s c.loop-l.l) c.loop-e.e i.3 (sym c.overlap.ensures ∙ c.in-default.is))
 
-pub loop_l_preserved : goal.loop_l_preserved
-loop_l_preserved c =
+pub loop-l-preserved : goal.loop-l-preserved
+loop-l-preserved c =
     let v = kept c.args.self.survey.now in
     let p = says c.args.self.policy.now in
     let i = c.loop-e.invariant in
     let done : v.count ≡ c.loop-e.e = omega arith in
     (i.0, i.1, first_more (overlaps v p c.search.s) c.loop-l.l i.2 (ap (λ n. first_of n (overlap v p c.search.s c.loop-l.l)) done ∙ i.3))
 
-pub search_preserved : goal.search_preserved
-search_preserved c =
+pub search-preserved : goal.search-preserved
+search-preserved c =
     let v = kept c.args.self.survey.now in
     let p = says c.args.self.policy.now in
     let i = c.loop-l.invariant in
     let done : v.count ≡ c.loop-l.l = omega arith in
     (i.0, first_more (all_overlaps v p) c.search.s i.1 (ap (λ n. first_of n (overlaps v p c.search.s)) done ∙ i.2))
 
-pub returns_in_Some : goal.returns_in_Some
-returns_in_Some c =
+pub returns-in-Some : goal.returns-in-Some
+returns-in-Some c =
     let v = kept c.args.self.survey.now in
     let p = says c.args.self.policy.now in
     let i = c.loop-e.invariant in

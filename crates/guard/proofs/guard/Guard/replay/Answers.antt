@@ -5,17 +5,17 @@ use Rattle.guard.specs.Runs.{Replays}
 use Rattle.guard.proofs.Running.{replays_none, replays_more}
 use Rattle.guard.proofs.guard.Guard.replay.Goals as goal
 
-pub loop_call_init : goal.loop_call_init
-loop_call_init g c =
+pub loop-call-init : goal.loop-call-init
+loop-call-init g c =
     let v = c.args.self.now in
     let new = c.in-ok-answers.ensures in
     (subst (λ xs. Replays (g.P.Plan.hall v.site.plan) v v _ xs) (sym new.items) (replays_none (g.P.Plan.hall v.site.plan) v), (new.len, new.capacity))
 
-pub push_reserved_requires : goal.push_reserved_requires
-push_reserved_requires g c = omega (arith, c.loop-call.invariant.1.0, c.loop-call.invariant.1.1, c.loop-call-test.true)
+pub push-reserved-requires : goal.push-reserved-requires
+push-reserved-requires g c = omega (arith, c.loop-call.invariant.1.0, c.loop-call.invariant.1.1, c.loop-call-test.true)
 
-pub loop_call_preserved : goal.loop_call_preserved
-loop_call_preserved g c =
+pub loop-call-preserved : goal.loop-call-preserved
+loop-call-preserved g c =
     let pushed = c.push-reserved.ensures in (
       replays_more g.P.Plan.hall c.args.self.now c.loop-call.self _ c.args.calls.now c.loop-call.call-index _ _ _ _ c.loop-call-test.true c.loop-call.invariant.0 c.perform-answer.ensures.performs pushed.items,
       (omega (arith, pushed.len, c.loop-call.invariant.1.0), omega (arith, pushed.capacity, c.loop-call.invariant.1.1)),

@@ -2,5 +2,5 @@
 use Rattle.guard.proofs.Fresh.{past_fresh}
 use Rattle.guard.proofs.guard.Guard.state.Goals as goal
 
-pub returns_in_None : goal.returns_in_None
-returns_in_None g c = past_fresh c.args.self.now.badges c.args.badge c.fresh.result c.in-None.ensures.lookup.0 c.fresh.ensures
+pub returns-in-None : goal.returns-in-None
+returns-in-None g c = past_fresh c.args.self.now.badges c.args.badge c.fresh.result c.in-None.ensures.lookup.0 c.fresh.ensures

@@ -5,20 +5,20 @@ use Rattle.guard.specs.Runs.{answers_of}
 use Rattle.guard.proofs.Running.{told_memory, told_fault, refused_run, from_new}
 use Rattle.guard.proofs.guard.running.answered.Goals as goal
 
-pub returns_in_err_guard : goal.returns_in_err_guard
-returns_in_err_guard g c =
+pub returns-in-err-guard : goal.returns-in-err-guard
+returns-in-err-guard g c =
     let p = err_from_is_err_and c.from-residual.result c.from-residual.ensures.1 in
     told_memory (λ v. vec_items v) c.from-residual.result _ (p.1 ∙ ap Err p.2)
 
-pub returns_in_err_seal : goal.returns_in_err_seal
-returns_in_err_seal g c =
+pub returns-in-err-seal : goal.returns-in-err-seal
+returns-in-err-seal g c =
     let p = err_from_is_err_and c.from-residual-in-err-seal.result c.from-residual-in-err-seal.ensures.1 in
     let new = c.in-ok-guard.ensures in
     told_fault (λ v. vec_items v) c.from-residual-in-err-seal.result (answers_of (g.P.Plan.hall c.args.plan) c.args.words.now c.args.calls.now) _ (p.1 ∙ ap Err p.2)
     (refused_run g.P.Plan.hall c.args.plan c.in-ok-guard.guard c.args.words.now c.args.calls.now _ new.0 new.1 c.in-err-seal.ensures.seals.answered)
 
-pub returns_in_err_answers : goal.returns_in_err_answers
-returns_in_err_answers g c =
+pub returns-in-err-answers : goal.returns-in-err-answers
+returns-in-err-answers g c =
     let p = err_from_is_err_and c.from-residual-in-err-answers.result c.from-residual-in-err-answers.ensures.1 in
     told_memory (λ v. vec_items v) c.from-residual-in-err-answers.result _ (p.1 ∙ ap Err p.2)
 

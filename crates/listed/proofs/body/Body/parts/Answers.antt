@@ -2,11 +2,11 @@ use Rattle.std.proofs.Common.{◌≡◌, ◌<◌, length, set, replicate, sym, r
 use Rattle.listed.proofs.Padded.{Filling, filling_more, filling_whole}
 use Rattle.listed.proofs.body.Body.parts.Goals as goal
 
-pub loop_i_init : goal.loop_i_init
-loop_i_init g c = record { front = refl; rest = ap (replicate 16) c.part-parts.ensures; long = refl }
+pub loop-i-init : goal.loop-i-init
+loop-i-init g c = record { front = refl; rest = ap (replicate 16) c.part-parts.ensures; long = refl }
 
-pub loop_i_preserved : goal.loop_i_preserved
-loop_i_preserved g c =
+pub loop-i-preserved : goal.loop-i-preserved
+loop-i-preserved g c =
     let self = c.args.self.now in
     let long : length (set c.loop-i.parts c.loop-i.i c.part.result) ≡ 16 = length-set c.loop-i.parts c.loop-i.i c.part.result ∙ c.loop-i.invariant.long in
     let room : c.loop-i.i < 16 = omega arith in

@@ -13,27 +13,27 @@ tested xs ys r h = search (rules, bytes_eq-Decides)
 told : (xs ys : List ℕ) (r t : Bool) → Decides r (xs ≡ ys) → r ≡ t → bytes_eq xs ys ≡ t
 told xs ys r t h e = sym (tested xs ys r h) ∙ e
 
-pub returns_then_eq : goal.returns_then_eq
-returns_then_eq c =
+pub returns-then-eq : goal.returns-then-eq
+returns-then-eq c =
     rw (told c.args.word.now (codes "drawn") _ _ (slice_eq-Decides Decides-eqb _ _ _ c.eq.ensures) c.if-eq.true)
 
-pub returns_then_eq_2 : goal.returns_then_eq_2
-returns_then_eq_2 c =
+pub returns-then-eq-2 : goal.returns-then-eq-2
+returns-then-eq-2 c =
     rw (
       told c.args.word.now (codes "drawn") _ _ (slice_eq-Decides Decides-eqb _ _ _ c.eq.ensures) c.if-eq.false,
       told c.args.word.now (codes "cells") _ _ (slice_eq-Decides Decides-eqb _ _ _ c.eq-2.ensures) c.if-eq-2.true,
     )
 
-pub returns_then_eq_3 : goal.returns_then_eq_3
-returns_then_eq_3 c =
+pub returns-then-eq-3 : goal.returns-then-eq-3
+returns-then-eq-3 c =
     rw (
       told c.args.word.now (codes "drawn") _ _ (slice_eq-Decides Decides-eqb _ _ _ c.eq.ensures) c.if-eq.false,
       told c.args.word.now (codes "cells") _ _ (slice_eq-Decides Decides-eqb _ _ _ c.eq-2.ensures) c.if-eq-2.false,
       told c.args.word.now (codes "zones") _ _ (slice_eq-Decides Decides-eqb _ _ _ c.eq-3.ensures) c.if-eq-3.true,
     )
 
-pub returns_then_eq_4 : goal.returns_then_eq_4
-returns_then_eq_4 c =
+pub returns-then-eq-4 : goal.returns-then-eq-4
+returns-then-eq-4 c =
     rw (
       told c.args.word.now (codes "drawn") _ _ (slice_eq-Decides Decides-eqb _ _ _ c.eq.ensures) c.if-eq.false,
       told c.args.word.now (codes "cells") _ _ (slice_eq-Decides Decides-eqb _ _ _ c.eq-2.ensures) c.if-eq-2.false,

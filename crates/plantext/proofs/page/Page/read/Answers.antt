@@ -5,8 +5,8 @@ use Rattle.plantext.specs.Reading.{Content, content_of, room_of, read_of, answer
 use Rattle.plantext.proofs.Back.{page_read}
 use Rattle.plantext.proofs.page.Page.read.Goals as goal
 
-pub returns_then_is_err : goal.returns_then_is_err
-returns_then_is_err c =
+pub returns-then-is-err : goal.returns-then-is-err
+returns-then-is-err c =
     let e : ◌≡◌ {A = Content × Result (Unit {0}) TextFault} (content_of c.clear-then-is-err.new.self, c.take-lines-answer.result) (answered (read_of (room_of c.args.self.now) c.args.text.now)) = search rules in
     record {
       content = e;
@@ -14,8 +14,8 @@ returns_then_is_err c =
       room = search rules;
     }
 
-pub returns_else_is_err : goal.returns_else_is_err
-returns_else_is_err c =
+pub returns-else-is-err : goal.returns-else-is-err
+returns-else-is-err c =
     let e : ◌≡◌ {A = Content × Result (Unit {0}) TextFault} (content_of c.take-lines-answer.new.self, c.take-lines-answer.result) (answered (read_of (room_of c.args.self.now) c.args.text.now)) = search rules in
     record {
       content = e;

@@ -5,8 +5,8 @@ use Rattle.plantext.proofs.Cuts.{some_from, none_from}
 use Rattle.plantext.proofs.Turns.{line_on, line_off, lines_end, lines_lack}
 use Rattle.plantext.proofs.page.Page.take_lines.Goals as goal
 
-pub returns_in_Err : goal.returns_in_Err
-returns_in_Err c =
+pub returns-in-Err : goal.returns-in-Err
+returns-in-Err c =
     let more = some_from _ _ c.is-empty.ensures c.loop-left-test.true in
     let here = c.cut.ensures in
     let t = c.in-Err.ensures in
@@ -15,8 +15,8 @@ returns_in_Err c =
       room = cc (t.room, c.loop-left.invariant.2);
     }
 
-pub loop_left_preserved : goal.loop_left_preserved
-loop_left_preserved c =
+pub loop-left-preserved : goal.loop-left-preserved
+loop-left-preserved c =
     let more = some_from _ _ c.is-empty.ensures c.loop-left-test.true in
     let here = c.cut.ensures in
     let said = c.cut-in-loop-left.ensures in
@@ -28,8 +28,8 @@ loop_left_preserved c =
       omega (arith, here.less more, inv.3),
     )
 
-pub returns_then_is_empty : goal.returns_then_is_empty
-returns_then_is_empty c =
+pub returns-then-is-empty : goal.returns-then-is-empty
+returns-then-is-empty c =
     record {
       content = lines_lack c.loop-left.number c.loop-left.left.now (content_of c.loop-left.self) (none_from _ _ c.is-empty.ensures c.loop-left-test.false) (ap (λ n. eqb n 0) (sym c.loop-left.self.sections.ok.0) ∙ sym c.is-empty-2.ensures ∙ c.if-is-empty.true) ∙ c.loop-left.invariant.0;
       room = c.loop-left.invariant.2;

@@ -6,8 +6,8 @@ use Rattle.plantext.specs.Reading.{content_of}
 use Rattle.plantext.proofs.Turns.{word_on, word_off}
 use Rattle.plantext.proofs.page.Page.take_words.Goals as goal
 
-pub loop_word_preserved : goal.loop_word_preserved
-loop_word_preserved c =
+pub loop-word-preserved : goal.loop-word-preserved
+loop-word-preserved c =
     let n = c.in-Some.ensures in
     let t = c.in-ok-take-word.ensures in
     let inv = c.loop-word.invariant in (
@@ -16,8 +16,8 @@ loop_word_preserved c =
       cc (t.room, inv.2),
     )
 
-pub returns_in_err_take_word : goal.returns_in_err_take_word
-returns_in_err_take_word c =
+pub returns-in-err-take-word : goal.returns-in-err-take-word
+returns-in-err-take-word c =
     let p = err_from_is_err_and c.from-residual.result c.from-residual.ensures.1 in
     let n = c.in-Some.ensures in
     let t = c.in-err-take-word.ensures in

@@ -14,8 +14,8 @@ clipped xs s e n low high is ends starts = same_lists _ _ (simp (length-take, le
 none_past : (c : Content) (k : ℕ) → length c.sections ≤ k → [] ≡ words_at k c
 none_past c k le = search (rules, slice_get_past, drop_all)
 
-pub returns_then_k_len : goal.returns_then_k_len
-returns_then_k_len c = none_past (content_of c.args.self.now) c.args.k (omega arith)
+pub returns-then-k-len : goal.returns-then-k-len
+returns-then-k-len c = none_past (content_of c.args.self.now) c.args.k (omega arith)
 
 pub returns : goal.returns
 returns c =

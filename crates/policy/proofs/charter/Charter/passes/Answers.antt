@@ -6,8 +6,8 @@ use Rattle.policy.proofs.Turns.{all_pass, no_turn, no_room}
 use Rattle.policy.proofs.charter.Charter.passes.Goals.{then-in-turn, else-in-turn}
 use Rattle.policy.proofs.charter.Charter.passes.Goals as goal
 
-pub returns_then_has_room : goal.returns_then_has_room
-returns_then_has_room c =
+pub returns-then-has-room : goal.returns-then-has-room
+returns-then-has-room c =
     let m = content_of c.args.self.now in
     let k = kind_of c.args.word in
     elim c.if-in-turn.branch [
@@ -17,8 +17,8 @@ returns_then_has_room c =
       | else-in-turn w ↦ absurd (let z : ◌≡◌ {A = ℕ} 0 1 = cc in omega arith)
     ]
 
-pub returns_else_has_room : goal.returns_else_has_room
-returns_else_has_room c =
+pub returns-else-has-room : goal.returns-else-has-room
+returns-else-has-room c =
     let m = content_of c.args.self.now in
     let k = kind_of c.args.word in
     elim c.if-in-turn.branch [

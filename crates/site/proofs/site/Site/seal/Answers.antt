@@ -11,8 +11,8 @@ use Rattle.site.proofs.Grounds.{same_ground}
 use Rattle.site.proofs.Sealings.{accepted_is, read_has_badges, outcome_is}
 use Rattle.site.proofs.site.Site.seal.Goals as goal
 
-pub returns_in_Some : goal.returns_in_Some
-returns_in_Some g c =
+pub returns-in-Some : goal.returns-in-Some
+returns-in-Some g c =
     let v = c.args.self.now in
     let h = g.P.Plan.hall v.plan in
     let ws = c.args.words.now in
@@ -28,8 +28,8 @@ returns_in_Some g c =
     }
 
 -- a policy that was read has badges
-pub invariant_of_self_2 : goal.invariant_of_self_2
-invariant_of_self_2 g c =
+pub invariant-of-self-2 : goal.invariant-of-self-2
+invariant-of-self-2 g c =
     let ws = c.args.words.now in
     let new = says c.read.new.self in
     let read : content_from ws ≡ Ok new = accepted_is (content_from ws) _ new c.in-ok-read.ensures.answer c.read.ensures.after in

@@ -5,8 +5,8 @@ use Rattle.listed.specs.Layouts.{layout_of}
 use Rattle.listed.specs.Reading.{room_at, turn_of}
 use Rattle.listed.proofs.draft.reading.DraftWordList.has_room.Goals as goal
 
-pub returns_in_Head : goal.returns_in_Head
-returns_in_Head g c =
+pub returns-in-Head : goal.returns-in-Head
+returns-in-Head g c =
     let sheet = c.args.self.now.sheet in
     let n : c.len.result ≡ length (map g.S.Shape.model (vec_items sheet.places)) = simp length-map (search rules) in
     ap (λ k. ltb k most_places) n ∙ sym (ap (λ t. room_at g.S.Shape.make (turn_of t) (layout_of g.S.Shape.model sheet)) c.in-Head.is)

@@ -5,8 +5,8 @@ use Rattle.listed.specs.Reading.{turn_of}
 use Rattle.listed.proofs.Heads.{head_passes}
 use Rattle.listed.proofs.draft.reading.DraftWordList.take.Goals as goal
 
-pub grow_requires : goal.grow_requires
-grow_requires g c =
+pub grow-requires : goal.grow-requires
+grow-requires g c =
     let self = c.args.self.now in
     let model = g.S.Shape.model in
     let t = head_passes g.S.Shape.make (turn_of self.next) (layout_of model self.sheet) c.args.word (ap turn_of c.in-Head.is) (sym c.passes.ensures ∙ c.if-not-passes.false) in

@@ -9,8 +9,8 @@ use Rattle.policy.proofs.Growing.{pushed, longer, below_push, below_more, rises_
 use Rattle.policy.proofs.Turns.{turn_of, room_of, sound_of, rises_of, took, sound_badges_turn, sound_parent_turn, sound_role_turn, sound_schema_permission_turn, sound_role_permission_turn, sound_assignment_turn}
 use Rattle.policy.proofs.charter.reading.CharterWordList.take.Goals as goal
 
-pub invariant_of_self : goal.invariant_of_self
-invariant_of_self c =
+pub invariant-of-self : goal.invariant-of-self
+invariant-of-self c =
     let self = c.args.self.now in
     let w = c.args.word in
     let m = content_of self in
@@ -22,8 +22,8 @@ invariant_of_self c =
     let more = longer xs ys (schema_of w) e in
     (self.badges_few, (self.parents_rise, (self.roles_rise, (self.schema_permissions_rise, (self.role_permissions_rise, (self.assignments_rise, (self.upward, (below_more (λ p. p.child) (length xs) (length ys) m.parents more self.children, (below_more (λ r. r.schema) (length xs) (length ys) m.roles more self.role_schemas, (below_more (λ p. p.schema) (length xs) (length ys) m.schema_permissions more self.owners, (self.holders, (self.assigned_roles, (self.assigned_badges, tt)))))))))))))
 
-pub invariant_of_self_in_9 : goal.invariant_of_self_in_9
-invariant_of_self_in_9 c =
+pub invariant-of-self-in-9 : goal.invariant-of-self-in-9
+invariant-of-self-in-9 c =
     let self = c.args.self.now in
     let w = c.args.word in
     let m = content_of self in
@@ -35,8 +35,8 @@ invariant_of_self_in_9 c =
     let good = sound_parent_turn (length m.schemas) w (sound_of m w 9 is ok) in
     (self.badges_few, (rises_push xs ys (parent_of w) e pair_less parent_key self.parents_rise (rises_of m w 9 is ok refl), (self.roles_rise, (self.schema_permissions_rise, (self.role_permissions_rise, (self.assignments_rise, (upward_push xs ys (parent_of w) e self.upward good.0, (below_push xs ys (parent_of w) e (λ p. p.child) (length m.schemas) self.children good.1, (self.role_schemas, (self.owners, (self.holders, (self.assigned_roles, (self.assigned_badges, tt)))))))))))))
 
-pub invariant_of_self_in_10 : goal.invariant_of_self_in_10
-invariant_of_self_in_10 c =
+pub invariant-of-self-in-10 : goal.invariant-of-self-in-10
+invariant-of-self-in-10 c =
     let self = c.args.self.now in
     let w = c.args.word in
     let m = content_of self in
@@ -49,8 +49,8 @@ invariant_of_self_in_10 c =
     let more = longer xs ys (role_of w) e in
     (self.badges_few, (self.parents_rise, (rises_push xs ys (role_of w) e pair_less role_key self.roles_rise (rises_of m w 10 is ok refl), (self.schema_permissions_rise, (self.role_permissions_rise, (self.assignments_rise, (self.upward, (self.children, (below_push xs ys (role_of w) e (λ r. r.schema) (length m.schemas) self.role_schemas good.0, (self.owners, (below_more (λ p. p.role) (length xs) (length ys) m.role_permissions more self.holders, (below_more (λ a. a.role) (length xs) (length ys) m.assignments more self.assigned_roles, (self.assigned_badges, tt)))))))))))))
 
-pub invariant_of_self_in_11 : goal.invariant_of_self_in_11
-invariant_of_self_in_11 c =
+pub invariant-of-self-in-11 : goal.invariant-of-self-in-11
+invariant-of-self-in-11 c =
     let self = c.args.self.now in
     let w = c.args.word in
     let m = content_of self in
@@ -62,8 +62,8 @@ invariant_of_self_in_11 c =
     let good = sound_schema_permission_turn (length m.schemas) w (sound_of m w 11 is ok) in
     (self.badges_few, (self.parents_rise, (self.roles_rise, (rises_push xs ys (schema_permission_of w) e triple_less schema_permission_key self.schema_permissions_rise (rises_of m w 11 is ok refl), (self.role_permissions_rise, (self.assignments_rise, (self.upward, (self.children, (self.role_schemas, (below_push xs ys (schema_permission_of w) e (λ p. p.schema) (length m.schemas) self.owners good.0, (self.holders, (self.assigned_roles, (self.assigned_badges, tt)))))))))))))
 
-pub invariant_of_self_in_12 : goal.invariant_of_self_in_12
-invariant_of_self_in_12 c =
+pub invariant-of-self-in-12 : goal.invariant-of-self-in-12
+invariant-of-self-in-12 c =
     let self = c.args.self.now in
     let w = c.args.word in
     let m = content_of self in
@@ -75,8 +75,8 @@ invariant_of_self_in_12 c =
     let good = sound_role_permission_turn (length m.roles) w (sound_of m w 12 is ok) in
     (self.badges_few, (self.parents_rise, (self.roles_rise, (self.schema_permissions_rise, (rises_push xs ys (role_permission_of w) e triple_less role_permission_key self.role_permissions_rise (rises_of m w 12 is ok refl), (self.assignments_rise, (self.upward, (self.children, (self.role_schemas, (self.owners, (below_push xs ys (role_permission_of w) e (λ p. p.role) (length m.roles) self.holders good.0, (self.assigned_roles, (self.assigned_badges, tt)))))))))))))
 
-pub invariant_of_self_in_13 : goal.invariant_of_self_in_13
-invariant_of_self_in_13 c =
+pub invariant-of-self-in-13 : goal.invariant-of-self-in-13
+invariant-of-self-in-13 c =
     let self = c.args.self.now in
     let w = c.args.word in
     let m = content_of self in
@@ -88,8 +88,8 @@ invariant_of_self_in_13 c =
     let good = sound_assignment_turn (length m.roles) m.badges w (sound_of m w 13 is ok) in
     (self.badges_few, (self.parents_rise, (self.roles_rise, (self.schema_permissions_rise, (self.role_permissions_rise, (rises_push xs ys (assignment_of w) e pair_less assignment_key self.assignments_rise (rises_of m w 13 is ok refl), (self.upward, (self.children, (self.role_schemas, (self.owners, (self.holders, (below_push xs ys (assignment_of w) e (λ a. a.role) (length m.roles) self.assigned_roles good.0, (below_push xs ys (assignment_of w) e (λ a. a.badge) m.badges self.assigned_badges good.1, tt)))))))))))))
 
-pub invariant_of_self_in_default : goal.invariant_of_self_in_default
-invariant_of_self_in_default c =
+pub invariant-of-self-in-default : goal.invariant-of-self-in-default
+invariant-of-self-in-default c =
     let self = c.args.self.now in
     let w = c.args.word in
     let m = content_of self in
@@ -100,8 +100,8 @@ invariant_of_self_in_default c =
     let more : m.badges ≤ c.badges-of-self.result = omega (arith, f.0) in
     (few, (self.parents_rise, (self.roles_rise, (self.schema_permissions_rise, (self.role_permissions_rise, (self.assignments_rise, (self.upward, (self.children, (self.role_schemas, (self.owners, (self.holders, (self.assigned_roles, (below_more (λ a. a.badge) m.badges c.badges-of-self.result m.assignments more self.assigned_badges, tt)))))))))))))
 
-pub returns_in_8 : goal.returns_in_8
-returns_in_8 c =
+pub returns-in-8 : goal.returns-in-8
+returns-in-8 c =
     let self = c.args.self.now in
     let w = c.args.word in
     let m = content_of self in
@@ -112,8 +112,8 @@ returns_in_8 c =
     let e : ys ≡ xs ++ schema_of w ∷ [] = pushed 32 xs ys c.of.result (schema_of w) c.of.ensures c.put.ensures (room_of m w 8 is ok) in
     took m w 8 is ok _ (ap (λ zs. record { badges = m.badges; schemas = zs; parents = m.parents; roles = m.roles; schema_permissions = m.schema_permissions; role_permissions = m.role_permissions; assignments = m.assignments }) e)
 
-pub returns_in_9 : goal.returns_in_9
-returns_in_9 c =
+pub returns-in-9 : goal.returns-in-9
+returns-in-9 c =
     let self = c.args.self.now in
     let w = c.args.word in
     let m = content_of self in
@@ -124,8 +124,8 @@ returns_in_9 c =
     let e : ys ≡ xs ++ parent_of w ∷ [] = pushed 64 xs ys c.of-in-9.result (parent_of w) c.of-in-9.ensures c.put-in-9.ensures (room_of m w 9 is ok) in
     took m w 9 is ok _ (ap (λ zs. record { badges = m.badges; schemas = m.schemas; parents = zs; roles = m.roles; schema_permissions = m.schema_permissions; role_permissions = m.role_permissions; assignments = m.assignments }) e)
 
-pub returns_in_10 : goal.returns_in_10
-returns_in_10 c =
+pub returns-in-10 : goal.returns-in-10
+returns-in-10 c =
     let self = c.args.self.now in
     let w = c.args.word in
     let m = content_of self in
@@ -136,8 +136,8 @@ returns_in_10 c =
     let e : ys ≡ xs ++ role_of w ∷ [] = pushed 64 xs ys c.of-in-10.result (role_of w) c.of-in-10.ensures c.put-in-10.ensures (room_of m w 10 is ok) in
     took m w 10 is ok _ (ap (λ zs. record { badges = m.badges; schemas = m.schemas; parents = m.parents; roles = zs; schema_permissions = m.schema_permissions; role_permissions = m.role_permissions; assignments = m.assignments }) e)
 
-pub returns_in_11 : goal.returns_in_11
-returns_in_11 c =
+pub returns-in-11 : goal.returns-in-11
+returns-in-11 c =
     let self = c.args.self.now in
     let w = c.args.word in
     let m = content_of self in
@@ -148,8 +148,8 @@ returns_in_11 c =
     let e : ys ≡ xs ++ schema_permission_of w ∷ [] = pushed 256 xs ys c.of-in-11.result (schema_permission_of w) c.of-in-11.ensures c.put-in-11.ensures (room_of m w 11 is ok) in
     took m w 11 is ok _ (ap (λ zs. record { badges = m.badges; schemas = m.schemas; parents = m.parents; roles = m.roles; schema_permissions = zs; role_permissions = m.role_permissions; assignments = m.assignments }) e)
 
-pub returns_in_12 : goal.returns_in_12
-returns_in_12 c =
+pub returns-in-12 : goal.returns-in-12
+returns-in-12 c =
     let self = c.args.self.now in
     let w = c.args.word in
     let m = content_of self in
@@ -160,8 +160,8 @@ returns_in_12 c =
     let e : ys ≡ xs ++ role_permission_of w ∷ [] = pushed 256 xs ys c.of-in-12.result (role_permission_of w) c.of-in-12.ensures c.put-in-12.ensures (room_of m w 12 is ok) in
     took m w 12 is ok _ (ap (λ zs. record { badges = m.badges; schemas = m.schemas; parents = m.parents; roles = m.roles; schema_permissions = m.schema_permissions; role_permissions = zs; assignments = m.assignments }) e)
 
-pub returns_in_13 : goal.returns_in_13
-returns_in_13 c =
+pub returns-in-13 : goal.returns-in-13
+returns-in-13 c =
     let self = c.args.self.now in
     let w = c.args.word in
     let m = content_of self in
@@ -172,8 +172,8 @@ returns_in_13 c =
     let e : ys ≡ xs ++ assignment_of w ∷ [] = pushed 512 xs ys c.of-in-13.result (assignment_of w) c.of-in-13.ensures c.put-in-13.ensures (room_of m w 13 is ok) in
     took m w 13 is ok _ (ap (λ zs. record { badges = m.badges; schemas = m.schemas; parents = m.parents; roles = m.roles; schema_permissions = m.schema_permissions; role_permissions = m.role_permissions; assignments = zs }) e)
 
-pub returns_in_default : goal.returns_in_default
-returns_in_default c =
+pub returns-in-default : goal.returns-in-default
+returns-in-default c =
     let self = c.args.self.now in
     let w = c.args.word in
     let m = content_of self in

@@ -9,22 +9,22 @@ use Rattle.zones.specs.PilesLemmas.{hall_length, row_below, row_zone, row_off}
 use Rattle.zones.proofs.zones.answers.ZonesPlan.places_at.Goals as goal
 use Rattle.zones.proofs.zones.answers.ZonesPlan.places_at.Goals.{then-x-width-via-then-x-width, then-x-width-via-else-x-width+then-y-height, then-holds, else-holds}
 
-pub returns_then_x_width : goal.returns_then_x_width
-returns_then_x_width g c =
+pub returns-then-x-width : goal.returns-then-x-width
+returns-then-x-width g c =
     row_off (g.P.Plan.hall c.args.self.now.below) (vec_items c.args.self.now.zones) (g.met.P.Plan.few c.args.self.now.below) c.args.x c.args.y c.places-at-covering.result.bits
     (elim c.then-x-width.branch [ then-x-width-via-then-x-width w ↦ inl (omega arith) | then-x-width-via-else-x-width+then-y-height w ↦ inr (omega arith) ])
     c.places-at-covering.ensures
 
-pub loop_k_init : goal.loop_k_init
-loop_k_init g c =
+pub loop-k-init : goal.loop-k-init
+loop-k-init g c =
     rw c.count-first.ensures (row_below (g.P.Plan.hall c.args.self.now.below) (vec_items c.args.self.now.zones) (g.met.P.Plan.few c.args.self.now.below) c.args.x c.args.y c.places-at-covering.result.bits c.places-at-covering.ensures)
 
-pub index_requires : goal.index_requires
-index_requires g c =
+pub index-requires : goal.index-requires
+index-requires g c =
     omega (arith, hall_length (g.P.Plan.hall c.args.self.now.below) (vec_items c.args.self.now.zones) (g.met.P.Plan.few c.args.self.now.below))
 
-pub loop_k_preserved : goal.loop_k_preserved
-loop_k_preserved g c =
+pub loop-k-preserved : goal.loop-k-preserved
+loop-k-preserved g c =
     let h = g.P.Plan.hall c.args.self.now.below in
     let few = g.met.P.Plan.few c.args.self.now.below in
     let zs = vec_items c.args.self.now.zones in

@@ -3,13 +3,13 @@ use Rattle.std.proofs.Common.{◌-◌, vec_items, sym, ap, ◌∙◌, arith}
 use Rattle.zones.specs.PilesLemmas.{hall_length, type_low, type_zone}
 use Rattle.zones.proofs.zones.answers.ZonesPlan.type_of.Goals as goal
 
-pub returns_then_place_first : goal.returns_then_place_first
-returns_then_place_first g c =
+pub returns-then-place-first : goal.returns-then-place-first
+returns-then-place-first g c =
     c.type-of.ensures
     ∙ type_low (g.P.Plan.hall c.args.self.now.below) (vec_items c.args.self.now.zones) (g.met.P.Plan.few c.args.self.now.below) c.args.place (omega arith)
 
-pub index_requires : goal.index_requires
-index_requires g c =
+pub index-requires : goal.index-requires
+index-requires g c =
     omega (arith, hall_length (g.P.Plan.hall c.args.self.now.below) (vec_items c.args.self.now.zones) (g.met.P.Plan.few c.args.self.now.below))
 
 pub returns : goal.returns

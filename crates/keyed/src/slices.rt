@@ -8,7 +8,7 @@ use super::keys::{KeyOrder, Keyed};
 
 /// Whether a record with this key may follow these: its key is above the last one's.
 pub fn may_follow<R: Keyed>(records: &[R], key: &R::Key) -> bool
-    ensures { result ≡ follows R.Key.KeyOrder.less keyed records.now key.now }
+    ensures { result ≡ follows R.Key.KeyOrder.less R.keyed records.now key.now }
 {
     match records {
         [] => true,
@@ -18,7 +18,7 @@ pub fn may_follow<R: Keyed>(records: &[R], key: &R::Key) -> bool
 
 /// Whether each key is above the one before.
 pub fn all_rise<R: Keyed>(records: &[R]) -> bool
-    ensures { result ≡ rising R.Key.KeyOrder.less keyed records.now }
+    ensures { result ≡ rising R.Key.KeyOrder.less R.keyed records.now }
 {
     for i in 1..records.len() {
         let rises = records[i - 1].key().below(&records[i].key());
@@ -33,8 +33,8 @@ pub fn all_rise<R: Keyed>(records: &[R]) -> bool
 /// place where a record has the key.
 pub fn find<R: Keyed>(records: &[R], key: &R::Key) -> Option<usize>
     ensures within { IfSome result (λ i. i < length records.now) }
-    ensures same { IfSome result (λ i. HoldsAt (λ x. keyed x ≡ key.now) records.now i) }
-    ensures value { rising R.Key.KeyOrder.less keyed records.now ≡ true → result ≡ find_of R.Key.KeyOrder.less keyed key.now records.now }
+    ensures same { IfSome result (λ i. HoldsAt (λ x. R.keyed x ≡ key.now) records.now i) }
+    ensures value { rising R.Key.KeyOrder.less R.keyed records.now ≡ true → result ≡ find_of R.Key.KeyOrder.less R.keyed key.now records.now }
 {
     let mut low = 0usize;
     let mut high = records.len();

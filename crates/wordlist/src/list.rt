@@ -23,32 +23,32 @@ pub trait WordList {
 
     /// Whether the list has words of this kind.
     fn belongs(&self, kind: u32) -> bool
-        ensures { result ≡ rules.member kind };
+        ensures { result ≡ Self.rules.member kind };
 
     /// Whether the word may stand here.
     fn in_turn(&self, word: u32) -> bool
-        ensures { result ≡ rules.turn (state self.now) word };
+        ensures { result ≡ Self.rules.turn (Self.state self.now) word };
 
     /// Whether the word passes no limit.
     fn has_room(&self, word: u32) -> bool
-        ensures { result ≡ rules.room (state self.now) word };
+        ensures { result ≡ Self.rules.room (Self.state self.now) word };
 
     /// Whether the word's fields are good.
     fn is_sound(&self, word: u32) -> bool
-        ensures { result ≡ rules.sound (state self.now) word };
+        ensures { result ≡ Self.rules.sound (Self.state self.now) word };
 
     /// Takes a word that breaks no rule; any other changes nothing.
     fn take(&mut self, word: u32)
-        ensures { state self.new ≡ takes rules (state self.old) word };
+        ensures { Self.state self.new ≡ takes Self.rules (Self.state self.old) word };
 
     /// Whether the list may not end here.
     fn owes(&self) -> bool
-        ensures { result ≡ rules.owes (state self.now) };
+        ensures { result ≡ Self.rules.owes (Self.state self.now) };
 }
 
 /// Finds words of a kind that the list does not have.
 fn known<L: WordList>(list: &L, index: usize, word: u32) -> Result<(), WordFault>
-    ensures { result ≡ (if rules.member (kind_of word) then Ok tt else Err (Foreign index)) }
+    ensures { result ≡ (if L.rules.member (kind_of word) then Ok tt else Err (Foreign index)) }
 {
     if !list.belongs(kind(word)) {
         return Err(WordFault::Foreign { index });
@@ -58,7 +58,7 @@ fn known<L: WordList>(list: &L, index: usize, word: u32) -> Result<(), WordFault
 
 /// Finds a list of `length` words that ends too early.
 fn complete<L: WordList>(list: &L, length: usize) -> Result<(), WordFault>
-    ensures { result ≡ (if rules.owes (state list.now) then Err (Short length) else Ok tt) }
+    ensures { result ≡ (if L.rules.owes (L.state list.now) then Err (Short length) else Ok tt) }
 {
     if list.owes() {
         return Err(WordFault::Short { length });
@@ -68,7 +68,7 @@ fn complete<L: WordList>(list: &L, length: usize) -> Result<(), WordFault>
 
 /// Takes one word, or says why not.
 fn take_word<L: WordList>(list: &mut L, index: usize, word: u32) -> Result<(), RecordFault>
-    ensures { (state list.new, result) ≡ run rules (state list.old) index (word ∷ []) }
+    ensures { (L.state list.new, result) ≡ run L.rules (L.state list.old) index (word ∷ []) }
 {
     known(list, index, word)?;
     if !list.in_turn(word) {
@@ -87,7 +87,7 @@ fn take_word<L: WordList>(list: &mut L, index: usize, word: u32) -> Result<(), R
 /// Takes words in their order, the first of which stands at `first`.
 fn take_words<L: WordList>(list: &mut L, first: usize, words: &[u32]) -> Result<(), RecordFault>
     requires { first + length words.now < 2 ^ 64 }
-    ensures { (state list.new, result) ≡ run rules (state list.old) first words.now }
+    ensures { (L.state list.new, result) ≡ run L.rules (L.state list.old) first words.now }
 {
     for (i, word) in words.iter().enumerate() {
         take_word(list, first + i, *word)?;
@@ -98,7 +98,7 @@ fn take_words<L: WordList>(list: &mut L, first: usize, words: &[u32]) -> Result<
 /// Takes a record's words in their order.
 fn take_record<L: WordList>(list: &mut L, record: Record<'_>) -> Result<(), RecordFault>
     requires { index_of (shown «record») + length (words_of (shown «record»)) < 2 ^ 64 }
-    ensures { (state list.new, result) ≡ run rules (state list.old) (index_of (shown «record».entry)) (words_of (shown «record».entry)) }
+    ensures { (L.state list.new, result) ≡ run L.rules (L.state list.old) (index_of (shown «record»)) (words_of (shown «record»)) }
 {
     match record {
         Record::Plain { index, head } => take_word(list, index, *head),
@@ -119,7 +119,7 @@ fn take_record<L: WordList>(list: &mut L, record: Record<'_>) -> Result<(), Reco
 
 /// Reads a list to its end, or to the first word that breaks a rule.
 pub fn read<L: WordList>(list: &mut L, words: &[u32]) -> Result<(), RecordFault>
-    ensures { (state list.new, result) ≡ read_of rules (state list.old) words.now }
+    ensures { (L.state list.new, result) ≡ read_of L.rules (L.state list.old) words.now }
 {
     let mut reader = Reader::new(words);
     while let Some(record) = reader.next() {

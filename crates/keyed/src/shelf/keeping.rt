@@ -71,15 +71,15 @@ impl<R: Copy + Drop, const MOST: usize> Shelf<R, MOST> {
 impl<R: Keyed + Drop, const MOST: usize> Shelf<R, MOST> {
     /// Whether a record's key is above the last one's.
     pub fn rises(&self, record: &R) -> bool
-        ensures { result ≡ follows R.Key.KeyOrder.less keyed self.now.records.items (keyed «record».now) }
+        ensures { result ≡ follows R.Key.KeyOrder.less R.keyed self.now.records.items (R.keyed «record».now) }
     {
         may_follow(&self.records, &record.key())
     }
 
     /// Whether a record has this key. If the keys do not rise, one that has it may be missed.
     pub fn has(&self, key: &R::Key) -> bool
-        ensures sure { result ≡ true → has_key R.Key.KeyOrder.less keyed key.now self.now.records.items ≡ true }
-        ensures value { rising R.Key.KeyOrder.less keyed self.now.records.items ≡ true → result ≡ has_key R.Key.KeyOrder.less keyed key.now self.now.records.items }
+        ensures sure { result ≡ true → has_key R.Key.KeyOrder.less R.keyed key.now self.now.records.items ≡ true }
+        ensures value { rising R.Key.KeyOrder.less R.keyed self.now.records.items ≡ true → result ≡ has_key R.Key.KeyOrder.less R.keyed key.now self.now.records.items }
     {
         find(&self.records, key).is_some()
     }

@@ -16,7 +16,7 @@ returns-then-on-edge c =
 
 pub loop-to-preserved : goal.loop-to-preserved
 loop-to-preserved c =
-    let on = on_skip c.loop-to.from c.args.corners.now c.loop-to.to-index c.args.x c.args.y c.loop-to-test.true (sym c.if-on-edge.ensures) in (
+    let on = on_skip c.loop-to.from c.args.corners.now c.loop-to.to-index c.args.x c.args.y c.loop-to-test.true (sym c.if-on_edge.ensures) in (
       sym on ∙ c.loop-to.invariant.0,
       elim c.if-crossed.branch [
         | then-crossed w ↦

@@ -11,6 +11,6 @@ returns g c =
     let k = c.args.key.now in
     let f = c.find.ensures in
     record {
-      sure = has_sure less key g.met.R.Key.KeyOrder.irreflexive xs ys k c.find.result c.is-some.result c.deref.ensures.value c.is-some.ensures f.within f.same;
-      value = has_value less key xs ys k c.find.result c.is-some.result c.deref.ensures.value c.is-some.ensures f.value;
+      sure = has_sure less key g.met.R.Key.KeyOrder.irreflexive xs ys k c.find.result c.is_some.result c.deref.ensures.value c.is_some.ensures f.within f.same;
+      value = has_value less key xs ys k c.find.result c.is_some.result c.deref.ensures.value c.is_some.ensures f.value;
     }

@@ -7,7 +7,7 @@ pub returns : goal.returns
 returns c =
     let e = first_rest c.args.self.now.left.now 0 (omega (arith, ltb-false)) in
     record {
-      cut = ap Some c.record-of.ensures ∙ cut_is _ _ _ _ _ _ e c.body-of.ensures c.parted.ensures.front;
-      left = left_is _ _ _ _ _ e c.body-of.ensures c.parted.ensures.back;
+      cut = ap Some c.record_of.ensures ∙ cut_is _ _ _ _ _ _ e c.body_of.ensures c.parted.ensures.front;
+      left = left_is _ _ _ _ _ e c.body_of.ensures c.parted.ensures.back;
       index = omega (arith, c.parted.ensures.all, ap length e);
     }

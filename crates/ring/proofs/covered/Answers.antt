@@ -9,9 +9,9 @@ use Rattle.ring.proofs.covered.Goals as goal
 pub returns-in-default : goal.returns-in-default
 returns-in-default c = covers_none c.args.corners.now c.args.x c.args.y (omega (arith, ltb-true, leb-true))
 
-pub returns-then-on-edge : goal.returns-then-on-edge
-returns-then-on-edge c =
-    let on = on_here c.loop-to.from c.args.corners.now c.loop-to.to-index c.args.x c.args.y c.loop-to-test.true (sym c.if-on-edge.ensures) in
+pub returns-then-on_edge : goal.returns-then-on_edge
+returns-then-on_edge c =
+    let on = on_here c.loop-to.from c.args.corners.now c.loop-to.to-index c.args.x c.args.y c.loop-to-test.true (sym c.if-on_edge.ensures) in
     covers_on c.args.corners.now (last_of c.args.corners.now) c.args.x c.args.y refl (sym c.loop-to.invariant.0 ∙ on)
 
 pub loop-to-preserved : goal.loop-to-preserved

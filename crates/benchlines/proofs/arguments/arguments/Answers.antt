@@ -9,20 +9,20 @@ loop-i-init g c =
     let z : g.row.N - 0 ≡ g.row.N = omega arith in
     (after_none _ ∙ ap (λ n. arguments_of c.args.most n (drop c.args.from c.args.line.now)) z, length-replicate g.row.N 0)
 
-pub returns-in-err-number : goal.returns-in-err-number
-returns-in-err-number g c =
-    c.from-residual.ensures
-    ∙ arguments_break (take c.loop-i.i c.loop-i.numbers) (drop c.loop-i.at c.args.line.now) c.args.most (g.row.N - c.loop-i.i) (omega arith) c.in-err-number.ensures
+pub returns-in_err-number : goal.returns-in_err-number
+returns-in_err-number g c =
+    c.from_residual.ensures
+    ∙ arguments_break (take c.loop-i.i c.loop-i.numbers) (drop c.loop-i.at c.args.line.now) c.args.most (g.row.N - c.loop-i.i) (omega arith) c.in_err-number.ensures
     ∙ c.loop-i.invariant.0
 
 pub loop-i-preserved : goal.loop-i-preserved
 loop-i-preserved g c =
     let z : g.row.N - (c.loop-i.i + 1) ≡ g.row.N - c.loop-i.i - 1 = omega arith in
-    let n = c.in-ok-number.number in
-    let rest = drop c.in-ok-number.after c.args.line.now in (
+    let n = c.in_ok-number.number in
+    let rest = drop c.in_ok-number.after c.args.line.now in (
       ap (λ ns. after ns (arguments_of c.args.most (g.row.N - (c.loop-i.i + 1)) rest)) (take_more_set c.loop-i.numbers c.loop-i.i n (omega arith))
           ∙ ap (λ k. after (take c.loop-i.i c.loop-i.numbers ++ n ∷ []) (arguments_of c.args.most k rest)) z
-          ∙ arguments_step (take c.loop-i.i c.loop-i.numbers) (drop c.loop-i.at c.args.line.now) c.args.most (g.row.N - c.loop-i.i) (n, rest) (omega arith) c.in-ok-number.ensures
+          ∙ arguments_step (take c.loop-i.i c.loop-i.numbers) (drop c.loop-i.at c.args.line.now) c.args.most (g.row.N - c.loop-i.i) (n, rest) (omega arith) c.in_ok-number.ensures
           ∙ c.loop-i.invariant.0,
       length-set c.loop-i.numbers c.loop-i.i n ∙ c.loop-i.invariant.1,
     )

@@ -6,15 +6,15 @@ use Rattle.benchrun.specs.Printed.{text_of}
 use Rattle.benchrun.proofs.Putting.{appended, prints, prints_on}
 use Rattle.benchrun.proofs.lines.answer_to.Goals as goal
 
-pub returns-in-err-text : goal.returns-in-err-text
-returns-in-err-text g c =
+pub returns-in_err-text : goal.returns-in_err-text
+returns-in_err-text g c =
     let told = c.put.ensures in
     let v = c.args.guard.now in
     let h = g.P.Plan.hall v.site.plan in
     let call = line_call c.args.line.now in
-    let r = c.from-residual.result in
+    let r = c.from_residual.result in
     let old = string_bytes c.args.out.now in
-    let none = IfOk-from_err r (λ _. old ≡ old ++ text_of c.put.result) (ap is_err (err_from_is_err_and r c.from-residual.ensures.1).1) in
+    let none = IfOk-from_err r (λ _. old ≡ old ++ text_of c.put.result) (ap is_err (err_from_is_err_and r c.from_residual.ensures.1).1) in
     record {
       text = prints h v c.put.new.guard call c.put.result r old old told.answers none;
       site = told.answers.site;
@@ -28,11 +28,11 @@ returns g c =
     let v = c.args.guard.now in
     let h = g.P.Plan.hall v.site.plan in
     let call = line_call c.args.line.now in
-    let r = c.push-str.result in
+    let r = c.push_str.result in
     let old = string_bytes c.args.out.now in
-    let new = string_bytes c.push-str.new.self in
+    let new = string_bytes c.push_str.new.self in
     let a = c.put.result in
-    let more = appended r old new c.as-str.result.now (text_of a) (c.as-str.ensures.value ∙ c.in-ok-text.ensures) c.push-str.ensures.bytes in
+    let more = appended r old new c.as_str.result.now (text_of a) (c.as_str.ensures.value ∙ c.in_ok-text.ensures) c.push_str.ensures.bytes in
     record {
       text = prints h v c.put.new.guard call a r old new told.answers more;
       site = told.answers.site;

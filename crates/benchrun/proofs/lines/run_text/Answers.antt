@@ -12,20 +12,20 @@ loop-line-preserved g c =
     (λ p. g.P.Plan.hall p)
     c.args.guard.now
     c.loop-line.guard
-    c.answer-to.new.guard
+    c.answer_to.new.guard
     (lines_of c.args.input.now)
     (string_bytes c.loop-line.out)
-    (string_bytes c.answer-to.new.out)
+    (string_bytes c.answer_to.new.out)
     c.in-Some.line.now
     (left c.loop-line.lines)
     rest
     (handed _ rest c.in-Some.line.now c.in-Some.ensures.line c.in-Some.ensures.rest)
     c.loop-line.invariant
-    c.in-ok-answer-to.ensures.site
-    c.in-ok-answer-to.ensures.law
+    c.in_ok-answer_to.ensures.site
+    c.in_ok-answer_to.ensures.law
 
 pub returns : goal.returns
 returns g c =
     let v = c.args.guard.now in
-    let all = all_printed (g.P.Plan.hall v.site.plan) v c.loop-line.guard c.args.input.now (string_bytes c.loop-line.out) (left c.loop-line.lines) c.in-default.ensures.line c.if-is-long.ensures c.loop-line.invariant in
+    let all = all_printed (g.P.Plan.hall v.site.plan) v c.loop-line.guard c.args.input.now (string_bytes c.loop-line.out) (left c.loop-line.lines) c.in-default.ensures.line c.if-is_long.ensures c.loop-line.invariant in
     record { text = λ ws p st. (all ws p st).0; after = λ ws p st. (all ws p st).1 }

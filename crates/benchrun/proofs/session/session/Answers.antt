@@ -5,16 +5,16 @@ use Rattle.benchrun.specs.Hall.{LacksMemory}
 use Rattle.benchrun.proofs.Accepted.{handed_on, ready_prints}
 use Rattle.benchrun.proofs.session.session.Goals as goal
 
-pub returns-in-err-guard : goal.returns-in-err-guard
-returns-in-err-guard c =
-    let p = err_from_is_err_and c.from-residual.result c.from-residual.ensures.1 in
-    handed_on _ c.from-residual.result _ p.0 p.1 (subst LacksMemory (sym p.2) c.in-err-guard.ensures)
+pub returns-in_err-guard : goal.returns-in_err-guard
+returns-in_err-guard c =
+    let p = err_from_is_err_and c.from_residual.result c.from_residual.ensures.1 in
+    handed_on _ c.from_residual.result _ p.0 p.1 (subst LacksMemory (sym p.2) c.in_err-guard.ensures)
 
-pub returns-in-err-run-text : goal.returns-in-err-run-text
-returns-in-err-run-text c =
-    let p = err_from_is_err_and c.from-residual-in-err-run-text.result c.from-residual-in-err-run-text.ensures.1 in
-    handed_on _ c.from-residual-in-err-run-text.result _ p.0 p.1 (subst LacksMemory (sym p.2) tt)
+pub returns-in_err-run_text : goal.returns-in_err-run_text
+returns-in_err-run_text c =
+    let p = err_from_is_err_and c.from_residual-in_err-run_text.result c.from_residual-in_err-run_text.ensures.1 in
+    handed_on _ c.from_residual-in_err-run_text.result _ p.0 p.1 (subst LacksMemory (sym p.2) tt)
 
 pub returns : goal.returns
 returns c =
-    ready_prints c.in-ok-guard.guard (string_bytes c.in-ok-run-text.field-0) c.args.input.now c.in-ok-guard.ensures c.in-ok-run-text.ensures.text
+    ready_prints c.in_ok-guard.guard (string_bytes c.in_ok-run_text.field-0) c.args.input.now c.in_ok-guard.ensures c.in_ok-run_text.ensures.text

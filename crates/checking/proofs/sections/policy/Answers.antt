@@ -11,4 +11,4 @@ same_ok (Ok c) = refl
 same_ok (Err f) = refl
 
 pub returns : goal.returns
-returns c = c.is-ok.ensures.value ∙ ap is_ok c.read-answer.ensures.answer ∙ same_ok (content_from c.args.words.now)
+returns c = c.is_ok.ensures.value ∙ ap is_ok c.read-answer.ensures.answer ∙ same_ok (content_from c.args.words.now)

@@ -6,11 +6,11 @@ use Rattle.plantext.proofs.digits.hex.Goals as goal
 pub returns-in-default : goal.returns-in-default
 returns-in-default c = bad_digit c.args.word.now c.loop-byte.byte-index c.loop-byte.value c.loop-byte-test.true (omega arith) c.loop-byte.invariant.0 c.in-default.ensures.value
 
-pub overflow-mul-value : goal.overflow-mul-value
-overflow-mul-value c = let f = fits c.loop-byte.value 0 c.loop-byte.byte-index c.loop-byte.invariant.1 (omega arith) (omega arith) in omega arith
+pub overflow_mul-value : goal.overflow_mul-value
+overflow_mul-value c = let f = fits c.loop-byte.value 0 c.loop-byte.byte-index c.loop-byte.invariant.1 (omega arith) (omega arith) in omega arith
 
-pub overflow-add-value : goal.overflow-add-value
-overflow-add-value c = let f = fits c.loop-byte.value c.in-Some.digit c.loop-byte.byte-index c.loop-byte.invariant.1 c.in-Some.ensures.small (omega arith) in omega arith
+pub overflow_add-value : goal.overflow_add-value
+overflow_add-value c = let f = fits c.loop-byte.value c.in-Some.digit c.loop-byte.byte-index c.loop-byte.invariant.1 c.in-Some.ensures.small (omega arith) in omega arith
 
 pub loop-byte-preserved : goal.loop-byte-preserved
 loop-byte-preserved c = (

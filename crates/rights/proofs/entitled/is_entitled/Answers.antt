@@ -20,4 +20,4 @@ pub returns : goal.returns
 returns c =
     let p = says c.args.policy.now in
     let all : length p.roles ≡ c.loop-r.r = omega arith in
-    sym (or_from (assigned p c.args.badge c.args.role) _ (sym c.if-is-assigned.ensures) (ap (λ (n : ℕ). some n (raises (cell c.args.above.now) p c.args.badge c.args.role)) all ∙ c.loop-r.invariant))
+    sym (or_from (assigned p c.args.badge c.args.role) _ (sym c.if-is_assigned.ensures) (ap (λ (n : ℕ). some n (raises (cell c.args.above.now) p c.args.badge c.args.role)) all ∙ c.loop-r.invariant))

@@ -17,12 +17,12 @@ loop-y-init g c =
 pub loop-x-preserved : goal.loop-x-preserved
 loop-x-preserved g c =
     let h = g.P.Plan.hall c.args.plan.now in
-    let at = c.places-at-at.result.bits in
+    let at = c.places_at-at.result.bits in
     let n = c.count-count.result in (
       c.note.ensures.whole.0 c.loop-x.invariant.0,
       c.note.ensures.whole.1 c.loop-x.invariant.1,
-      lies_point h at n c.loop-x.x c.loop-y.y c.loop-x.lies c.note.new.lies c.count-count.ensures c.places-at-at.ensures c.note.ensures.within c.loop-x.invariant.2,
-      shares_point h at n c.loop-x.x c.loop-y.y c.loop-x.shares c.note.new.shares c.count-count.ensures c.places-at-at.ensures c.note.ensures.common c.loop-x.invariant.3,
+      lies_point h at n c.loop-x.x c.loop-y.y c.loop-x.lies c.note.new.lies c.count-count.ensures c.places_at-at.ensures c.note.ensures.within c.loop-x.invariant.2,
+      shares_point h at n c.loop-x.x c.loop-y.y c.loop-x.shares c.note.new.shares c.count-count.ensures c.places_at-at.ensures c.note.ensures.common c.loop-x.invariant.3,
     )
 
 pub loop-y-preserved : goal.loop-y-preserved
@@ -40,10 +40,10 @@ returns g c =
     let p = c.args.plan.now in
     let h = g.P.Plan.hall p in
     let done : c.loop-y.y ≡ h.height = omega arith in
-    let full : length c.types-of-types.result ≡ 64 = search rules in
+    let full : length c.types_of-types.result ≡ 64 = search rules in
     let lies = lies_end h c.loop-y.y c.loop-y.lies done c.loop-y.invariant.2 in
     let shares = shares_end h c.loop-y.y c.loop-y.shares done c.loop-y.invariant.3 in
     record {
-      value = survey_from h _ c.count-count.ensures full c.types-of-types.ensures c.loop-y.invariant.0 lies c.loop-y.invariant.1 shares;
-      tied = tied_from h _ (g.met.P.Plan.few p) c.count-count.ensures c.types-of-types.ensures lies shares;
+      value = survey_from h _ c.count-count.ensures full c.types_of-types.ensures c.loop-y.invariant.0 lies c.loop-y.invariant.1 shares;
+      tied = tied_from h _ (g.met.P.Plan.few p) c.count-count.ensures c.types_of-types.ensures lies shares;
     }

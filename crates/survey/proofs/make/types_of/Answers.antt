@@ -8,7 +8,7 @@ loop-place-preserved g c = (
   simp length-set c.loop-place.invariant.0,
   (λ k l.
       ⊎_elim
-      (λ (same : k ≡ c.loop-place.place). rw same (get_or-set_same c.loop-place.types c.loop-place.place c.type-of.result None (omega arith) ∙ c.type-of.ensures))
-      (λ (other : k ≡ c.loop-place.place → ⊥). get_or-set_other c.loop-place.types c.loop-place.place k c.type-of.result None other ∙ c.loop-place.invariant.1 k (omega (arith, other)))
+      (λ (same : k ≡ c.loop-place.place). rw same (get_or-set_same c.loop-place.types c.loop-place.place c.type_of.result None (omega arith) ∙ c.type_of.ensures))
+      (λ (other : k ≡ c.loop-place.place → ⊥). get_or-set_other c.loop-place.types c.loop-place.place k c.type_of.result None other ∙ c.loop-place.invariant.1 k (omega (arith, other)))
       (cases_eq k c.loop-place.place)),
 )

@@ -11,13 +11,13 @@ loop-record-smaller g c = cut_less _ c.loop-record.reader.left.now _ _ c.in-Some
 pub loop-record-preserved : goal.loop-record-preserved
 loop-record-preserved g c =
     let n = c.in-Some.ensures in (
-      c.loop-record.invariant.0 ∙ record_taken g.L.WordList.rules _ _ c.loop-record.reader.index _ _ c.loop-record.reader.left.now _ _ n.cut n.left n.index c.in-ok-take-record.ensures,
+      c.loop-record.invariant.0 ∙ record_taken g.L.WordList.rules _ _ c.loop-record.reader.index _ _ c.loop-record.reader.left.now _ _ n.cut n.left n.index c.in_ok-take_record.ensures,
       n.index ∙ c.loop-record.invariant.1,
     )
 
-pub returns-in-err-take-record : goal.returns-in-err-take-record
-returns-in-err-take-record g c =
-    let p = err_from_is_err_and c.from-residual.result c.from-residual.ensures.1 in
+pub returns-in_err-take_record : goal.returns-in_err-take_record
+returns-in_err-take_record g c =
+    let p = err_from_is_err_and c.from_residual.result c.from_residual.ensures.1 in
     let n = c.in-Some.ensures in
     rw (p.1, p.2)
-    (ap (ended g.L.WordList.rules (length c.args.words.now)) (record_refused g.L.WordList.rules _ _ c.loop-record.reader.index _ c.loop-record.reader.left.now _ n.cut c.in-err-take-record.ensures ∙ sym c.loop-record.invariant.0))
+    (ap (ended g.L.WordList.rules (length c.args.words.now)) (record_refused g.L.WordList.rules _ _ c.loop-record.reader.index _ c.loop-record.reader.left.now _ n.cut c.in_err-take_record.ensures ∙ sym c.loop-record.invariant.0))

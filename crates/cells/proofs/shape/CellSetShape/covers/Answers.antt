@@ -6,4 +6,4 @@ pub returns-then-row-self : goal.returns-then-row-self
 returns-then-row-self c = no_row c.args.self.now.rows c.args.self.now.count c.args.x c.args.y (omega arith)
 
 pub returns : goal.returns
-returns c = at_row c.args.self.now.rows c.args.self.now.count c.args.x c.args.y c.has-column.result (omega arith) c.has-column.ensures
+returns c = at_row c.args.self.now.rows c.args.self.now.count c.args.x c.args.y c.has_column.result (omega arith) c.has_column.ensures

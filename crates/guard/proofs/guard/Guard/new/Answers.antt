@@ -4,5 +4,5 @@ use Rattle.guard.proofs.guard.Guard.new.Goals as goal
 
 pub returns : goal.returns
 returns g c =
-    let made = c.in-ok-site.ensures in
+    let made = c.in_ok-site.ensures in
     (made.0, made.1, all_fresh 128 c.fresh.result c.fresh.ensures)

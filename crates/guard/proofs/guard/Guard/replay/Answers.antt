@@ -8,15 +8,15 @@ use Rattle.guard.proofs.guard.Guard.replay.Goals as goal
 pub loop-call-init : goal.loop-call-init
 loop-call-init g c =
     let v = c.args.self.now in
-    let new = c.in-ok-answers.ensures in
+    let new = c.in_ok-answers.ensures in
     (subst (λ xs. Replays (g.P.Plan.hall v.site.plan) v v _ xs) (sym new.items) (replays_none (g.P.Plan.hall v.site.plan) v), (new.len, new.capacity))
 
-pub push-reserved-requires : goal.push-reserved-requires
-push-reserved-requires g c = omega (arith, c.loop-call.invariant.1.0, c.loop-call.invariant.1.1, c.loop-call-test.true)
+pub push_reserved-requires : goal.push_reserved-requires
+push_reserved-requires g c = omega (arith, c.loop-call.invariant.1.0, c.loop-call.invariant.1.1, c.loop-call-test.true)
 
 pub loop-call-preserved : goal.loop-call-preserved
 loop-call-preserved g c =
-    let pushed = c.push-reserved.ensures in (
+    let pushed = c.push_reserved.ensures in (
       replays_more g.P.Plan.hall c.args.self.now c.loop-call.self _ c.args.calls.now c.loop-call.call-index _ _ _ _ c.loop-call-test.true c.loop-call.invariant.0 c.perform-answer.ensures.performs pushed.items,
       (omega (arith, pushed.len, c.loop-call.invariant.1.0), omega (arith, pushed.capacity, c.loop-call.invariant.1.1)),
     )

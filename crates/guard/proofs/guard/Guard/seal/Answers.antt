@@ -11,7 +11,7 @@ pub returns : goal.returns
 returns g c =
     let v = c.args.self.now in
     let h = g.P.Plan.hall v.site.plan in
-    let told = c.in-ok-seal.ensures in
+    let told = c.in_ok-seal.ensures in
     let left = c.forget.ensures in
     let after = ap (λ (s : Site g.row.P.Denot). ground h s) left.site ∙ told.after in
     record {

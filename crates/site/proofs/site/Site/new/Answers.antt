@@ -10,7 +10,7 @@ pub returns : goal.returns
 returns g c =
     let h = g.P.Plan.hall c.args.plan in (
       refl,
-      same_ground h _ _ _ _ _ _ c.in-ok-policy.ensures.0
+      same_ground h _ _ _ _ _ _ c.in_ok-policy.ensures.0
           (λ r p. cell_none 64 c.none.result r p c.none.ensures ∙ sym (holds_nothing (length h.places) (lies_in h) r p))
           (λ r a. cell_none 64 c.none-2.result r a c.none-2.ensures ∙ sym (nothing_above (lies_in h) r a)),
     )

@@ -18,8 +18,8 @@ returns-in-Some g c =
     let ws = c.args.words.now in
     let old = says v.policy in
     let new = says c.read.new.self in
-    let unsealed : old.badges ≡ 0 = omega (arith, ltb-false 0 old.badges (sym c.is_sealed.ensures ∙ c.if-is-sealed.false)) in
-    let read : content_from ws ≡ Ok new = accepted_is (content_from ws) old new c.in-ok-read.ensures.answer c.read.ensures.after in
+    let unsealed : old.badges ≡ 0 = omega (arith, ltb-false 0 old.badges (sym c.is_sealed.ensures ∙ c.if-is_sealed.false)) in
+    let read : content_from ws ≡ Ok new = accepted_is (content_from ws) old new c.in_ok-read.ensures.answer c.read.ensures.after in
     let is = outcome_is old h ws new (Some c.in-Some.fault) unsealed read (sym c.in-Some.is ∙ c.first_fault.ensures.meant h c.of-survey.ensures.tied) in
     record {
       answer = sym (ap sealed_or is);
@@ -32,7 +32,7 @@ pub invariant-of-self-2 : goal.invariant-of-self-2
 invariant-of-self-2 g c =
     let ws = c.args.words.now in
     let new = says c.read.new.self in
-    let read : content_from ws ≡ Ok new = accepted_is (content_from ws) _ new c.in-ok-read.ensures.answer c.read.ensures.after in
+    let read : content_from ws ≡ Ok new = accepted_is (content_from ws) _ new c.in_ok-read.ensures.answer c.read.ensures.after in
     ((λ z. absurd (read_has_badges ws new read z)), tt)
 
 pub returns : goal.returns
@@ -43,8 +43,8 @@ returns g c =
     let old = says v.policy in
     let new = says c.read.new.self in
     let tied = c.of-survey.ensures.tied in
-    let unsealed : old.badges ≡ 0 = omega (arith, ltb-false 0 old.badges (sym c.is_sealed.ensures ∙ c.if-is-sealed.false)) in
-    let read : content_from ws ≡ Ok new = accepted_is (content_from ws) old new c.in-ok-read.ensures.answer c.read.ensures.after in
+    let unsealed : old.badges ≡ 0 = omega (arith, ltb-false 0 old.badges (sym c.is_sealed.ensures ∙ c.if-is_sealed.false)) in
+    let read : content_from ws ≡ Ok new = accepted_is (content_from ws) old new c.in_ok-read.ensures.answer c.read.ensures.after in
     let is = outcome_is old h ws new None unsealed read (sym c.in-default.is ∙ c.first_fault.ensures.meant h tied) in
     record {
       answer = sym (ap sealed_or is);

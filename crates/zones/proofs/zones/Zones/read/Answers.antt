@@ -5,7 +5,7 @@ use Rattle.wordlist.proofs.Outcomes.{read_answers, read_takes, read_leaves}
 use Rattle.zones.specs.declared.zone.Zone.{Zone}
 use Rattle.zones.specs.Reading.{Progress, progress_of, start, zone_rules, zones_from}
 use Rattle.zones.proofs.Exactly.{exactly_after, all_after}
-use Rattle.zones.proofs.zones.Zones.read.Goals.{then-is-ok, else-is-ok}
+use Rattle.zones.proofs.zones.Zones.read.Goals.{then-is_ok, else-is_ok}
 use Rattle.zones.proofs.zones.Zones.read.Goals as goal
 
 pub returns : goal.returns
@@ -20,21 +20,21 @@ returns g c =
     let is = c.start.ensures ∙ ap start c.count-places.ensures in
     let piled : Progress → List Zone = λ s. s.zones in
     let said = read_answers piled zone_rules (start n) read began c.read-answer.result words c.read-answer.ensures is in
-    let left : vec_items c.if-is-ok.self.1.1.0 ≡ replaced old (zones_from n words) =
-    elim c.if-is-ok.branch [
-      | then-is-ok w ↦
+    let left : vec_items c.if-is_ok.self.1.1.0 ≡ replaced old (zones_from n words) =
+    elim c.if-is_ok.branch [
+      | then-is_ok w ↦
           ap (λ v. vec_items v.1.1.0) w.self-is
           ∙ w.exchange.ensures.given
-          ∙ read_takes piled zone_rules (start n) read began c.read-answer.result words c.read-answer.ensures is old (sym c.is-ok.ensures.value ∙ w.if-is-ok.true)
-      | else-is-ok w ↦
+          ∙ read_takes piled zone_rules (start n) read began c.read-answer.result words c.read-answer.ensures is old (sym c.is_ok.ensures.value ∙ w.if-is_ok.true)
+      | else-is_ok w ↦
           ap (λ v. vec_items v.1.1.0) w.self-is
-          ∙ read_leaves piled zone_rules (start n) read began c.read-answer.result words c.read-answer.ensures is old (sym c.is-ok.ensures.value ∙ w.if-is-ok.false)
+          ∙ read_leaves piled zone_rules (start n) read began c.read-answer.result words c.read-answer.ensures is old (sym c.is_ok.ensures.value ∙ w.if-is_ok.false)
     ] in
     record {
       answer = said;
       after = left;
       below = refl;
       draft = c.start-2.ensures ∙ ap start c.count-places.ensures;
-      exactly = exactly_after n few words old (vec_items c.if-is-ok.self.1.1.0) c.read-answer.result said left;
-      all = all_after n few words old (vec_items c.if-is-ok.self.1.1.0) c.read-answer.result said left;
+      exactly = exactly_after n few words old (vec_items c.if-is_ok.self.1.1.0) c.read-answer.result said left;
+      all = all_after n few words old (vec_items c.if-is_ok.self.1.1.0) c.read-answer.result said left;
     }

@@ -12,4 +12,4 @@ grow-requires g c =
     let t = head_passes g.S.Shape.make (turn_of self.next) (layout_of model self.sheet) c.args.word (ap turn_of c.in-Head.is) (sym c.passes.ensures ∙ c.if-not-passes.false) in
     let n = length-map (vec_items self.sheet.places) model in
     let s = g.met.S.Shape.short c.args.word t.1 in
-    record { room = omega (arith, t.0, n); short = omega (arith, s, c.new.ensures.count, c.body-of.ensures) }
+    record { room = omega (arith, t.0, n); short = omega (arith, s, c.new.ensures.count, c.body_of.ensures) }

@@ -96,9 +96,9 @@ invariant-of-self-in-default c =
     let ok = sym c.passes.ensures ∙ c.if-not-passes.false in
     let f = front_of m w (turn_of m w (kind_of w) refl ok) (λ (e : kind_of w ≡ 8). omega arith) (λ (e : kind_of w ≡ 9). omega arith) (λ (e : kind_of w ≡ 10). omega arith) (λ (e : kind_of w ≡ 11). omega arith) (λ (e : kind_of w ≡ 12). omega arith) (λ (e : kind_of w ≡ 13). omega arith) in
     let good = sound_badges_turn w (sound_of m w 7 f.1 ok) in
-    let few : c.badges-of-self.result ≤ 128 = omega (arith, good.1, c.badges-of-self.ensures) in
-    let more : m.badges ≤ c.badges-of-self.result = omega (arith, f.0) in
-    (few, (self.parents_rise, (self.roles_rise, (self.schema_permissions_rise, (self.role_permissions_rise, (self.assignments_rise, (self.upward, (self.children, (self.role_schemas, (self.owners, (self.holders, (self.assigned_roles, (below_more (λ a. a.badge) m.badges c.badges-of-self.result m.assignments more self.assigned_badges, tt)))))))))))))
+    let few : c.badges_of-self.result ≤ 128 = omega (arith, good.1, c.badges_of-self.ensures) in
+    let more : m.badges ≤ c.badges_of-self.result = omega (arith, f.0) in
+    (few, (self.parents_rise, (self.roles_rise, (self.schema_permissions_rise, (self.role_permissions_rise, (self.assignments_rise, (self.upward, (self.children, (self.role_schemas, (self.owners, (self.holders, (self.assigned_roles, (below_more (λ a. a.badge) m.badges c.badges_of-self.result m.assignments more self.assigned_badges, tt)))))))))))))
 
 pub returns-in-8 : goal.returns-in-8
 returns-in-8 c =
@@ -179,4 +179,4 @@ returns-in-default c =
     let m = content_of self in
     let ok = sym c.passes.ensures ∙ c.if-not-passes.false in
     let f = front_of m w (turn_of m w (kind_of w) refl ok) (λ (e : kind_of w ≡ 8). omega arith) (λ (e : kind_of w ≡ 9). omega arith) (λ (e : kind_of w ≡ 10). omega arith) (λ (e : kind_of w ≡ 11). omega arith) (λ (e : kind_of w ≡ 12). omega arith) (λ (e : kind_of w ≡ 13). omega arith) in
-    took m w 7 f.1 ok _ (ap (λ n. record { badges = n; schemas = m.schemas; parents = m.parents; roles = m.roles; schema_permissions = m.schema_permissions; role_permissions = m.role_permissions; assignments = m.assignments }) c.badges-of-self.ensures)
+    took m w 7 f.1 ok _ (ap (λ n. record { badges = n; schemas = m.schemas; parents = m.parents; roles = m.roles; schema_permissions = m.schema_permissions; role_permissions = m.role_permissions; assignments = m.assignments }) c.badges_of-self.ensures)

@@ -11,13 +11,13 @@ use Rattle.zones.proofs.zones.answers.ZonesPlan.places_at.Goals.{then-x-width-vi
 
 pub returns-then-x-width : goal.returns-then-x-width
 returns-then-x-width g c =
-    row_off (g.P.Plan.hall c.args.self.now.below) (vec_items c.args.self.now.zones) (g.met.P.Plan.few c.args.self.now.below) c.args.x c.args.y c.places-at-covering.result.bits
+    row_off (g.P.Plan.hall c.args.self.now.below) (vec_items c.args.self.now.zones) (g.met.P.Plan.few c.args.self.now.below) c.args.x c.args.y c.places_at-covering.result.bits
     (elim c.then-x-width.branch [ then-x-width-via-then-x-width w ↦ inl (omega arith) | then-x-width-via-else-x-width+then-y-height w ↦ inr (omega arith) ])
-    c.places-at-covering.ensures
+    c.places_at-covering.ensures
 
 pub loop-k-init : goal.loop-k-init
 loop-k-init g c =
-    rw c.count-first.ensures (row_below (g.P.Plan.hall c.args.self.now.below) (vec_items c.args.self.now.zones) (g.met.P.Plan.few c.args.self.now.below) c.args.x c.args.y c.places-at-covering.result.bits c.places-at-covering.ensures)
+    rw c.count-first.ensures (row_below (g.P.Plan.hall c.args.self.now.below) (vec_items c.args.self.now.zones) (g.met.P.Plan.few c.args.self.now.below) c.args.x c.args.y c.places_at-covering.result.bits c.places_at-covering.ensures)
 
 pub index-requires : goal.index-requires
 index-requires g c =

@@ -5,7 +5,7 @@ use Rattle.zones.proofs.zones.answers.ZonesPlan.type_of.Goals as goal
 
 pub returns-then-place-first : goal.returns-then-place-first
 returns-then-place-first g c =
-    c.type-of.ensures
+    c.type_of.ensures
     ∙ type_low (g.P.Plan.hall c.args.self.now.below) (vec_items c.args.self.now.zones) (g.met.P.Plan.few c.args.self.now.below) c.args.place (omega arith)
 
 pub index-requires : goal.index-requires

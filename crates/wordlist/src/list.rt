@@ -98,7 +98,7 @@ fn take_words<L: WordList>(list: &mut L, first: usize, words: &[u32]) -> Result<
 /// Takes a record's words in their order.
 fn take_record<L: WordList>(list: &mut L, record: Record<'_>) -> Result<(), RecordFault>
     requires { index_of (shown «record») + length (words_of (shown «record»)) < 2 ^ 64 }
-    ensures { (L.state list.new, result) ≡ run L.rules (L.state list.old) (index_of (shown «record»)) (words_of (shown «record»)) }
+    ensures { (L.state list.new, result) ≡ run L.rules (L.state list.old) (index_of (shown «record».entry)) (words_of (shown «record».entry)) }
 {
     match record {
         Record::Plain { index, head } => take_word(list, index, *head),

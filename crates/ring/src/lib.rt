@@ -1,4 +1,5 @@
 //! Whether a closed ring of corners covers a point.
+#![tactic(auto)]
 
 pub mod corner;
 

@@ -1,13 +1,13 @@
 -- `covered`: each turn takes one edge off the ring.
-use Rattle.std.proofs.Common.{◌≡◌, ℕ, ◌+◌, ◌%◌, ◌≤◌, eqb, drop, sym, refl, ap, ◌∙◌, arith}
+use Rattle.std.proofs.Common.{◌≡◌, ℕ, ◌%◌, eqb, sym, refl, ap, ◌∙◌, arith}
 use Rattle.std.proofs.lemmas.Bool.{ltb-true, leb-true}
 use Rattle.ring.specs.Ring.{last_of, crossings}
 use Rattle.ring.proofs.Rings.{on_skip, on_here, cross_yes, cross_no, covers_on, covers_off, covers_none, on_end, cross_end}
 use Rattle.ring.proofs.covered.Goals.{then-crossed, else-crossed}
 use Rattle.ring.proofs.covered.Goals as goal
 
-pub returns-in-default : goal.returns-in-default
-returns-in-default c = covers_none c.args.corners.now c.args.x c.args.y (omega (arith, ltb-true, leb-true))
+pub returns-in_default : goal.returns-in_default
+returns-in_default c = covers_none c.args.corners.now c.args.x c.args.y (omega (arith, ltb-true, leb-true))
 
 pub returns-then-on_edge : goal.returns-then-on_edge
 returns-then-on_edge c =

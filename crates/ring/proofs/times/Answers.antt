@@ -1,7 +1,7 @@
 -- `times`: the product of two steps fits.
-use Rattle.std.proofs.Common.{◌≡◌, ◌^◌, ◌≤◌, ◌*ℤ◌, arith, w64, SFits, rules}
+use Rattle.std.proofs.Common.{◌^◌, ◌≤◌, ◌*ℤ◌, arith, w64, SFits}
 use lib.Signed.{mag}
-use Rattle.std.proofs.lemmas.Int.{ints, to_z-of_z}
+use Rattle.std.proofs.lemmas.Int.{to_z-of_z}
 use Rattle.ring.proofs.Products.{mag_times}
 use Rattle.ring.proofs.times.Goals as goal
 

@@ -1,6 +1,5 @@
 -- Each fault's number, layer and figures.
-use Rattle.std.specs.Prelude.{ℕ, List, [], ◌∷◌}
-use Rattle.wordlist.specs.declared.faults.WordFault.{WordFault}
+use Rattle.std.specs.Prelude.{ℕ, [], ◌∷◌}
 use Rattle.wordlist.specs.declared.faults.WordFault.TheVariants.{Short, Foreign}
 use Rattle.wordlist.specs.declared.faults.RecordFault.{RecordFault}
 use Rattle.wordlist.specs.declared.faults.RecordFault.TheVariants.{Word, OutOfTurn, Full, BadField}

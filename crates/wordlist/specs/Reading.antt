@@ -1,7 +1,6 @@
 -- How a list of words is read: word by word, up to the first that breaks a rule.
 use Rattle.std.specs.Prelude.{ℕ, ◌+◌, Bool, cond, ◌&&◌, List, [], ◌∷◌, length, Ok, Err, Result}
 use Rattle.wordlist.specs.Fields.{kind_of}
-use Rattle.wordlist.specs.declared.faults.WordFault.{WordFault}
 use Rattle.wordlist.specs.declared.faults.WordFault.TheVariants.{Short, Foreign}
 use Rattle.wordlist.specs.declared.faults.RecordFault.{RecordFault}
 use Rattle.wordlist.specs.declared.faults.RecordFault.TheVariants.{Word, OutOfTurn, Full, BadField}

@@ -1,5 +1,5 @@
 -- The words of what was read.
-use Rattle.std.specs.Prelude.{◌≡◌, ℕ, true, List, [], ◌∷◌, ◌++◌, Ok, Err}
+use Rattle.std.specs.Prelude.{◌≡◌, ℕ, true, List, [], ◌∷◌, ◌++◌, Ok}
 use Rattle.wordlist.specs.Reading.{Rules, run}
 use Rattle.wordlist.specs.Fields.{kind_of}
 

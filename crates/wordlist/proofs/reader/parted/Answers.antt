@@ -1,4 +1,4 @@
-use Rattle.std.proofs.Common.{◌≡◌, take, drop, ap, ◌∙◌, arith, rules}
+use Rattle.std.proofs.Common.{take, drop, ap, ◌∙◌, arith}
 use Rattle.wordlist.proofs.Parts.{take_min, drop_min}
 use Rattle.wordlist.proofs.reader.parted.Goals as goal
 

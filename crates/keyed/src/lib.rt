@@ -1,4 +1,5 @@
 //! Records that are kept in the order of their keys.
+#![tactic(auto)]
 
 pub mod keys;
 pub mod pair;

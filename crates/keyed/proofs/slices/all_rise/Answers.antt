@@ -1,4 +1,4 @@
-use Rattle.std.proofs.Common.{◌≡◌, ◌-◌, true, false, length, drop, sym, refl, ap, ◌∙◌, arith, length-drop}
+use Rattle.std.proofs.Common.{◌≡◌, ◌-◌, true, false, drop, sym, ap, ◌∙◌, arith, length-drop}
 use Rattle.keyed.proofs.Rising.{rises_at, falls_at, short_rises}
 use Rattle.keyed.proofs.slices.all_rise.Goals as goal
 

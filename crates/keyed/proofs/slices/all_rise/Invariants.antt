@@ -1,4 +1,4 @@
-use Rattle.std.proofs.Common.{◌≡◌, ◌-◌, ◌≤◌, drop}
+use Rattle.std.proofs.Common.{◌≡◌, ◌-◌, drop}
 use Rattle.keyed.specs.Orders.{rising}
 use Rattle.keyed.proofs.slices.all_rise.Given as goal
 

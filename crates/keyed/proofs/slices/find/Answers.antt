@@ -1,7 +1,6 @@
-use Rattle.std.proofs.Common.{◌≡◌, ℕ, ◌+◌, ◌-◌, ◌/◌, ◌<◌, true, false, length, get_or, sym, refl, ap, ◌∙◌, arith}
+use Rattle.std.proofs.Common.{◌≡◌, ◌+◌, ◌-◌, ◌/◌, ◌<◌, false, length, sym, ap, ◌∙◌, arith}
 use Rattle.std.proofs.lemmas.List.Elements.{at_read}
 use Rattle.std.proofs.lemmas.Bool.{and_from, not_from_false}
-use Rattle.keyed.specs.Orders.{alike}
 use Rattle.keyed.proofs.Rising.{low_more, high_more, found, missing}
 use Rattle.keyed.proofs.slices.find.Goals as goal
 

@@ -1,4 +1,4 @@
-use Rattle.std.proofs.Common.{◌≡◌, sym, ap, ◌∙◌, arith, ltb-false, ltb-true, leb-true}
+use Rattle.std.proofs.Common.{sym, ap, ◌∙◌, arith, ltb-false, ltb-true}
 use Rattle.std.proofs.lemmas.List.{nil_from_length}
 use Rattle.keyed.specs.Orders.{follows}
 use Rattle.keyed.proofs.Rising.{follows_last}

@@ -1,15 +1,14 @@
 -- Words that are written out are read back.
-use Rattle.std.proofs.Common.{◌≡◌, ℕ, zero, suc, ◌+◌, ◌-◌, ◌*◌, ◌/◌, ◌%◌, ◌^◌, ◌<◌, ◌≤◌, Bool, true, false, cond, eqb, ltb, leb, List, [], ◌∷◌, ◌++◌, length, Some, None, Ok, Err, codes, Option, Result, sym, refl, ap, ◌∙◌, subst, ⊎_elim, mod-lt, pow-suc, div-add-mod', div-one, arith, lit<}
+use Rattle.std.proofs.Common.{◌≡◌, ℕ, zero, suc, ◌+◌, ◌-◌, ◌*◌, ◌/◌, ◌%◌, ◌^◌, ◌<◌, ◌≤◌, false, ltb, leb, List, [], ◌∷◌, ◌++◌, length, Some, None, Ok, codes, Result, sym, refl, ap, ◌∙◌, ⊎_elim, mod-lt, pow-suc, div-add-mod', div-one, arith, lit<}
 use native.Mathlib.Nat.{div-eq_of_lt, div-div-eq-div-mul}
 use Rattle.std.proofs.lemmas.List.{append-nil, append_assoc}
 use Rattle.std.proofs.lemmas.Slice.Eq.{bytes_eq-Decides}
 use Rattle.std.proofs.lemmas.Bool.{cond-true, cond-false, cond_both, cases_lt, cases_Bool, eq-eqb, ne_eqb, le-leb, lt-leb, lt-ltb, le-ltb, and_from, and_right}
 use Rattle.std.specs.Str.{bytes_eq}
-use Rattle.plantext.specs.declared.faults.Reason.{Reason}
 use Rattle.plantext.specs.declared.faults.TextFault.{TextFault}
 use Rattle.plantext.specs.Parts.{before, with_first, parts_of, filled, lines_of, said, words_of}
 use Rattle.plantext.specs.Digits.{within, digit_of, with_digit, value_from, hex_of}
-use Rattle.plantext.specs.Reading.{Content, and_then, named, by_heading, word_taken, words_taken, line_taken, lines_taken, on_line, with_word, text_of, read_of, answered}
+use Rattle.plantext.specs.Reading.{Content, and_then, named, by_heading, line_taken, lines_taken, on_line, with_word, text_of, read_of, answered}
 use Rattle.plantext.specs.Writing.{digit_char, digits_of, word_lines, written, Words, drawing}
 
 -- a digit's character reads as the digit

@@ -1,10 +1,9 @@
 -- One turn of reading: a word of a line, a line of a text.
-use Rattle.std.proofs.Common.{◌≡◌, ℕ, ◌+◌, ◌<◌, true, false, eqb, List, [], ◌∷◌, length, Ok, Err, Result, sym, refl, ap, ◌∙◌}
+use Rattle.std.proofs.Common.{◌≡◌, ℕ, ◌+◌, ◌<◌, true, false, eqb, List, ◌∷◌, length, Ok, Err, sym, ap, ◌∙◌}
 use Rattle.std.proofs.lemmas.List.{nil_from_length}
 use Rattle.std.proofs.lemmas.Bool.{cond-true, cond-false}
 use Rattle.plantext.specs.declared.faults.Reason.{Reason}
 use Rattle.plantext.specs.declared.faults.Reason.TheVariants.{MissingSection}
-use Rattle.plantext.specs.declared.faults.TextFault.{TextFault}
 use Rattle.plantext.specs.Parts.{before, after, lines_of, said, words_of}
 use Rattle.plantext.specs.Reading.{Content, and_then, word_taken, words_taken, line_taken, lines_taken, on_line, unopened}
 use Rattle.plantext.proofs.Cuts.{parts_more}

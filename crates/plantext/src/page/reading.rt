@@ -18,16 +18,16 @@ impl Heading {
     fn named(word: &[u8]) -> Option<Heading>
         ensures { result ≡ named word.now }
     {
-        if word == b"drawn" {
+        if word == b"drawn".as_slice() {
             return Some(Heading::Drawn);
         }
-        if word == b"cells" {
+        if word == b"cells".as_slice() {
             return Some(Heading::Cells);
         }
-        if word == b"zones" {
+        if word == b"zones".as_slice() {
             return Some(Heading::Zones);
         }
-        if word == b"policy" {
+        if word == b"policy".as_slice() {
             return Some(Heading::Policy);
         }
         None

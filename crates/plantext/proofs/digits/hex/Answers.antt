@@ -3,8 +3,8 @@ use Rattle.std.proofs.Common.{arith}
 use Rattle.plantext.proofs.Numbers.{bad_digit, next_digit, no_digit, grows, fits}
 use Rattle.plantext.proofs.digits.hex.Goals as goal
 
-pub returns-in-default : goal.returns-in-default
-returns-in-default c = bad_digit c.args.word.now c.loop-byte.byte-index c.loop-byte.value c.loop-byte-test.true (omega arith) c.loop-byte.invariant.0 c.in-default.ensures.value
+pub returns-in_default : goal.returns-in_default
+returns-in_default c = bad_digit c.args.word.now c.loop-byte.byte-index c.loop-byte.value c.loop-byte-test.true (omega arith) c.loop-byte.invariant.0 c.in_default.ensures.value
 
 pub overflow_mul-value : goal.overflow_mul-value
 overflow_mul-value c = let f = fits c.loop-byte.value 0 c.loop-byte.byte-index c.loop-byte.invariant.1 (omega arith) (omega arith) in omega arith

@@ -1,5 +1,5 @@
 -- `next_word`: an empty part is passed by, and any other is the word.
-use Rattle.std.proofs.Common.{◌<◌, length, sym, ap, ◌∙◌, arith}
+use Rattle.std.proofs.Common.{sym, ap, ◌∙◌, arith}
 use Rattle.std.proofs.lemmas.List.{nil_from_length}
 use Rattle.plantext.specs.Parts.{words_of}
 use Rattle.plantext.proofs.Cuts.{some_from, none_from, word_found, word_skipped}

@@ -20,7 +20,7 @@ loop-left-preserved c =
     let more = some_from _ _ c.is_empty.ensures c.loop-left-test.true in
     let here = c.cut.ensures in
     let said = c.cut-in-loop-left.ensures in
-    let t = c.in-default.ensures in
+    let t = c.in_default.ensures in
     let inv = c.loop-left.invariant in (
       line_on c.loop-left.number c.loop-left.left.now c.cut.result.0.now c.cut.result.1.now c.cut-in-loop-left.result.0.now (content_of c.loop-left.self) (content_of c.take_line.new.self) more here.front here.back said.front t.content ∙ inv.0,
       omega (arith, here.all, said.all, t.len, inv.1),

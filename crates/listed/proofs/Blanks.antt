@@ -1,5 +1,5 @@
 -- A sheet that nothing is drawn on, as a layout.
-use Rattle.std.proofs.Common.{◌≡◌, List, [], map, vec_items, ap, ◌∙◌}
+use Rattle.std.proofs.Common.{◌≡◌, List, map, vec_items, ap, ◌∙◌}
 use Rattle.listed.specs.declared.floor.Floor.{Floor}
 use Rattle.listed.specs.declared.sheet.Sheet.{Sheet}
 use Rattle.listed.specs.Layouts.{Bare, Layout, blank, layout_of}

@@ -1,5 +1,5 @@
 -- An accepted list is exactly the words of the layout that it gave.
-use Rattle.std.proofs.Common.{◌≡◌, ℕ, ◌+◌, ◌-◌, ◌*◌, ◌^◌, ◌<◌, ◌≤◌, Bool, true, false, cond, ◌&&◌, eqb, List, [], ◌∷◌, ◌++◌, length, Ok, Err, Result, sym, refl, ap, ◌∙◌, subst, arith, length-append}
+use Rattle.std.proofs.Common.{◌≡◌, ℕ, ◌+◌, ◌-◌, ◌≤◌, Bool, true, false, cond, ◌&&◌, eqb, List, [], ◌∷◌, ◌++◌, length, Ok, Err, Result, sym, refl, ap, ◌∙◌, arith, length-append}
 use Rattle.std.specs.List.{flat_map, AllByRecursion as All}
 use Rattle.std.proofs.ByRecursion.{All-push}
 use Rattle.std.proofs.lemmas.List.{append_assoc, flat_map_more}
@@ -9,12 +9,12 @@ use Rattle.wordlist.specs.Cutting.{body_of}
 use Rattle.wordlist.specs.Fields.{field, kind_of}
 use Rattle.wordlist.specs.Outcomes.{given, answered, replaced}
 use Rattle.wordlist.specs.Reading.{Answer, read_of}
-use Rattle.wordlist.specs.Spelling.{Passes, Adds}
+use Rattle.wordlist.specs.Spelling.{Adds}
 use Rattle.wordlist.proofs.Spelling.{read_spelled, read_ends}
 use Rattle.listed.specs.declared.floor.Floor.{Floor}
 use Rattle.listed.specs.Layouts.{Layout}
-use Rattle.listed.specs.Makes.{Make, GoodBody, GoodWords, Exact}
-use Rattle.listed.specs.Reading.{Turn, front, head, body, Progress, start, side, sound_floor, floor_of, owing, kind_due, sound_at, grown, taken_at, list_rules, layout_from}
+use Rattle.listed.specs.Makes.{Make, GoodBody, Exact}
+use Rattle.listed.specs.Reading.{Turn, front, head, body, Progress, start, side, floor_of, owing, kind_due, sound_at, taken_at, list_rules, layout_from}
 use Rattle.listed.specs.Spelling.{floor_word, spelled}
 
 floor_word_spelled : (w : ℕ) → kind_of w ≡ 1 → field 18 10 w ≡ 0 → floor_word (floor_of w) ≡ w

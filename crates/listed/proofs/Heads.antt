@@ -1,12 +1,12 @@
 -- What a head that breaks no rule tells.
-use Rattle.std.proofs.Common.{◌≡◌, ℕ, ◌<◌, Bool, true, ◌&&◌, eqb, ltb, length, sym, ap, ◌∙◌}
+use Rattle.std.proofs.Common.{◌≡◌, ℕ, ◌<◌, true, ◌&&◌, eqb, length, sym, ap, ◌∙◌}
 use Rattle.std.proofs.lemmas.Bool.{ltb-true, and_parts}
 use Rattle.plan.specs.Hall.{most_places}
 use Rattle.wordlist.specs.Fields.{kind_of}
 use Rattle.wordlist.specs.Reading.{passing}
 use Rattle.listed.specs.Layouts.{Layout}
 use Rattle.listed.specs.Makes.{Make}
-use Rattle.listed.specs.Reading.{Progress, Turn, head, kind_due, room_at, sound_at, list_rules}
+use Rattle.listed.specs.Reading.{Turn, head, kind_due, room_at, sound_at, list_rules}
 
 module _ {P : Type 0} (m : Make P) where
   -- there is room for its place, and its fields are good

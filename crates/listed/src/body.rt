@@ -58,8 +58,8 @@ impl Body {
 
     /// What each of the words says, and then what zeros say.
     pub fn parts<T: Parted>(&self) -> [T::Part; 16]
-        ensures whole { result ≡ padded said self.now.count self.now.words }
-        ensures front { take self.now.count result ≡ map said (take self.now.count self.now.words) }
+        ensures whole { result ≡ padded T.said self.now.count self.now.words }
+        ensures front { take self.now.count result ≡ map T.said (take self.now.count self.now.words) }
     {
         let mut parts = [T::part(0); 16];
         for i in 0..self.count {

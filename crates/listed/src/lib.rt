@@ -1,4 +1,5 @@
 //! Plans that are read from a list of a floor word and places, whatever a place is made of.
+#![tactic(auto)]
 
 pub mod body;
 pub mod draft;

@@ -1,5 +1,5 @@
-use Rattle.std.proofs.Common.{◌≡◌, ◌<◌, length, set, replicate, sym, refl, ap, ◌∙◌, arith, length-set, rules}
-use Rattle.listed.proofs.Padded.{Filling, filling_more, filling_whole}
+use Rattle.std.proofs.Common.{◌≡◌, ◌<◌, length, set, replicate, refl, ap, ◌∙◌, arith, length-set, rules}
+use Rattle.listed.proofs.Padded.{filling_more, filling_whole}
 use Rattle.listed.proofs.body.Body.parts.Goals as goal
 
 pub loop-i-init : goal.loop-i-init

@@ -1,4 +1,4 @@
-use Rattle.std.proofs.Common.{◌≡◌, length, vec_items, sym, ap, ◌∙◌, arith, rules}
+use Rattle.std.proofs.Common.{vec_items, sym, ap, ◌∙◌, arith}
 use lib.ListN.{length-map}
 use Rattle.listed.specs.Layouts.{layout_of}
 use Rattle.listed.specs.Reading.{turn_of}

@@ -17,6 +17,7 @@ use plan::Plan;
 use search::{Criterion, any, gather, lowest};
 use sets::Set64;
 use site::site::Site;
+use std::alloc::AllocError;
 
 /// A right that is asked for in a session of a badge.
 struct Request<'a, P: Plan> {
@@ -27,10 +28,30 @@ struct Request<'a, P: Plan> {
     object: u16,
 }
 
+impl<'a, P: Plan> Clone for Request<'a, P> {
+    ghost is_clone = { λ x y. y ≡ x };
+
+    ghost is_infallible = { λ _. ⊤ };
+
+    fn clone(&self) -> Result<Request<'a, P>, AllocError> {
+        Ok(*self)
+    }
+}
+
 impl<'a, P: Plan> Copy for Request<'a, P> {}
 
 /// The criterion that a role is active in the session and has the right.
 struct Serving<'a, P: Plan>(Request<'a, P>);
+
+impl<'a, P: Plan> Clone for Serving<'a, P> {
+    ghost is_clone = { λ x y. y ≡ x };
+
+    ghost is_infallible = { λ _. ⊤ };
+
+    fn clone(&self) -> Result<Serving<'a, P>, AllocError> {
+        Ok(*self)
+    }
+}
 
 impl<'a, P: Plan> Copy for Serving<'a, P> {}
 

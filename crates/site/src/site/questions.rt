@@ -1,6 +1,6 @@
 //! What calls and questions ask of a site. Numbers may be any: one that is not in use passes no test.
 
-ghost use Rattle.std.specs.Prelude.{◌≡◌, length};
+ghost use Rattle.std.specs.Prelude.{◌≡◌, ◌&&◌, length, nat_lt};
 ghost use Rattle.checks.specs.Faults.{schema_of_role};
 ghost use Rattle.policy.specs.Policies.{says};
 ghost use Rattle.rights.specs.Rights.{has_right as has_right_spec};
@@ -107,11 +107,12 @@ impl<P: Plan> Site<P> {
         is_in(&self.inside, role, place)
     }
 
-    /// Whether a role has a right, by itself or by an ancestor.
+    /// Whether a role has a right, by itself or by an ancestor. No right has an operation above 15.
     pub fn has_right(&self, role: usize, operation: u16, object: u16) -> bool
-        ensures { result ≡ has_right_spec (ground (P.Plan.hall self.now.plan) self.now).above (says self.now.policy) role operation object }
+        ensures { result ≡ (nat_lt operation 16 && has_right_spec (ground (P.Plan.hall self.now.plan) self.now).above (says self.now.policy) role operation object) }
     {
-        has_right(&self.policy, &self.above, role, operation, object)
+        operation < 16
+            && (role < 64 && has_right(&self.policy, &self.above, role as u16, operation, object))
     }
 
     /// Whether a badge is entitled to a role.

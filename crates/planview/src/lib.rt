@@ -1,5 +1,7 @@
 //! A plan's places in numbers and pictures: how many points each covers, and which.
 
+#![tactic(auto)]
+
 pub mod picture;
 
 ghost use Rattle.std.specs.Prelude.{◌≡◌, ℕ, ◌≤◌};
@@ -9,7 +11,7 @@ use plan::Plan;
 
 /// How many points of row `y` a place covers.
 fn points_of_row<P: Plan>(plan: &P, place: usize, y: u16) -> u32
-    ensures value { result ≡ points_of_row_spec (hall plan.now) place y }
+    ensures value { result ≡ points_of_row_spec (P.hall plan.now) place y }
     ensures most { result ≤ 256 }
 {
     let mut points = 0u32;
@@ -23,7 +25,7 @@ fn points_of_row<P: Plan>(plan: &P, place: usize, y: u16) -> u32
 
 /// How many points a place covers.
 pub fn points<P: Plan>(plan: &P, place: usize) -> u32
-    ensures { result ≡ points_of (hall plan.now) place }
+    ensures { result ≡ points_of (P.hall plan.now) place }
 {
     let mut points = 0u32;
     for y in 0..plan.height() {

@@ -14,7 +14,7 @@ pub struct Row {
 }
 
 fn mark<P: Plan>(plan: &P, place: usize, x: u16, y: u16) -> u8
-    ensures { result ≡ mark_at (hall plan.now) place y x }
+    ensures { result ≡ mark_at (P.hall plan.now) place y x }
 {
     if plan.covers(place, x, y) { b'#' } else { b'.' }
 }
@@ -22,7 +22,7 @@ fn mark<P: Plan>(plan: &P, place: usize, x: u16, y: u16) -> u8
 impl Row {
     /// Row `y` of a place.
     pub fn of_place<P: Plan>(plan: &P, place: usize, y: u16) -> Row
-        ensures { take result.width result.marks ≡ picture_row (hall plan.now) place y }
+        ensures { take result.width result.marks ≡ picture_row (P.hall plan.now) place y }
     {
         let mut marks = [b'.'; 256];
         let width = plan.width();

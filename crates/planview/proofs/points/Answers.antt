@@ -1,5 +1,5 @@
 -- `points`: a row is added.
-use Rattle.std.proofs.Common.{◌+◌, sym, ap, ◌∙◌, arith}
+use Rattle.std.proofs.Common.{arith}
 use Rattle.planview.specs.Views.{points_of_row}
 use Rattle.planview.proofs.Steps.{sum_step}
 use Rattle.planview.proofs.points.Goals as goal

@@ -1,8 +1,8 @@
 -- What a make of plan shows of its answers: its places are `map f xs`, of what its list xs holds, and an answer looks entry k up in ys, which is xs.
-use Rattle.std.proofs.Common.{◌≡◌, ℕ, ◌<◌, ◌≤◌, Bool, true, false, ltb, List, map, length, get_or, Some, None, sym, refl, ap, ◌∙◌, subst, arith}
+use Rattle.std.proofs.Common.{◌≡◌, ℕ, ◌<◌, ◌≤◌, true, false, ltb, List, map, length, get_or, Some, None, sym, ap, ◌∙◌, subst}
 use Rattle.std.proofs.lemmas.List.{get_or-map, length-map, get_or_past}
-use Rattle.std.proofs.lemmas.Bool.{ltb-true, ltb-false, lt-ltb, le-ltb}
-use Rattle.plan.specs.Hall.{Hall, Place, nowhere, type_at, covers_at}
+use Rattle.std.proofs.lemmas.Bool.{ltb-true, ltb-false, lt-ltb}
+use Rattle.plan.specs.Hall.{Place, nowhere, type_at, covers_at}
 
 module _ {X : Type 0} (f : X → Place) (xs : List X) (w h : ℕ) (k : ℕ) where
   pub found_place : (p : X) → k < length xs → p ≡ get_or xs k p → get_or (map f xs) k nowhere ≡ f p

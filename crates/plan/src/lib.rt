@@ -1,4 +1,5 @@
 //! What every make of plan answers: the five questions, and what follows from them.
+#![tactic(auto)]
 
 ghost use Rattle.std.specs.Prelude.{◌≡◌, ℕ, ◌≤◌, length};
 ghost use Rattle.sets.specs.Member.{member};

@@ -1,8 +1,8 @@
 -- A set that is filled with what passes.
-use Rattle.std.proofs.Common.{◌≡◌, ℕ, ◌+◌, ◌^◌, ◌<◌, Bool, true, false, cond, ◌&&◌, ◌||◌, eqb, ltb, sym, refl, ap, ◌∙◌, arith}
+use Rattle.std.proofs.Common.{◌≡◌, ℕ, ◌+◌, ◌^◌, ◌<◌, Bool, true, false, cond, ◌&&◌, ◌||◌, eqb, ltb, sym, refl, ap, ◌∙◌}
 use Rattle.std.proofs.lemmas.Bool.{lt-ltb}
 use Rattle.sets.specs.declared.Set64.{Set64}
-use Rattle.sets.specs.Member.{member, word_of}
+use Rattle.sets.specs.Member.{member}
 use Rattle.sets.proofs.Filled.{Filled, filled_with, filled_skip}
 use Rattle.sets.proofs.Words.{word_from}
 use Rattle.search.specs.Gathered.{gathered}

@@ -1,4 +1,5 @@
 //! One text for searches: the lowest number that meets a criterion, whether there is one, and which do.
+#![tactic(auto)]
 
 ghost use Rattle.std.specs.Prelude.{◌≡◌, ℕ, ◌^◌, ◌<◌, Bool, ◌&&◌, ◌||◌, is_some, ◌==◌, nat_lt};
 ghost use Rattle.sets.specs.Bounds.{some as some_of, lowest as lowest_of};

@@ -1,7 +1,7 @@
 -- A word is the word of its bits.
 use Rattle.std.proofs.Common.{◌≡◌, ℕ, zero, suc, ◌+◌, ◌-◌, ◌*◌, ◌/◌, ◌%◌, ◌^◌, ◌<◌, ◌≤◌, Bool, true, false, cond, eqb, sym, refl, ap, ◌∙◌, ⊎_elim, pow-suc, arith}
 use Rattle.std.proofs.lemmas.Nat.{pow_pos, div_below, mod_below, shr_split, field_of, mod-pow-add}
-use Rattle.std.proofs.lemmas.Bool.{cases_lt, eq-eqb, ne_eqb}
+use Rattle.std.proofs.lemmas.Bool.{cases_lt}
 use Rattle.sets.specs.Member.{member, word_of}
 
 -- bits that agree below n give one word

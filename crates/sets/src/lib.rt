@@ -1,4 +1,5 @@
 //! Sets of numbers below 64, kept as the bits of a word.
+#![tactic(auto)]
 
 ghost use Rattle.std.specs.Prelude.{◌≡◌, ℕ, false, not, ◌&&◌, ◌||◌, ◌==◌, nat_lt};
 ghost use Rattle.sets.specs.Member.{member};

@@ -1,5 +1,5 @@
 -- `gather`: one number more, and the set of those that pass.
-use Rattle.std.proofs.Common.{◌≡◌, ℕ, Bool, sym, ap, ◌∙◌, arith, rules}
+use Rattle.std.proofs.Common.{ℕ, Bool, arith, rules}
 use Rattle.sets.proofs.Filled.{filled_none}
 use Rattle.search.proofs.Gathering.{one_more, all_found, is_gathered}
 use Rattle.search.proofs.gather.Goals as goal

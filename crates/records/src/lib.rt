@@ -1,5 +1,7 @@
 //! The records of a policy: what their words say, when the words are good, and the keys.
 
+#![tactic(auto)]
+
 pub mod badges;
 pub mod keys;
 pub mod kinds;

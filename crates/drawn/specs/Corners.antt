@@ -1,5 +1,5 @@
 -- A word is its fields, so a drawn place gives back the words that it was read from.
-use Rattle.std.specs.Prelude.{◌≡◌, ℕ, Bool, true, cond, ◌&&◌, List, [], ◌∷◌, map, length, ◌==◌, nat_le, nat_lt, refl}
+use Rattle.std.specs.Prelude.{◌≡◌, ℕ, Bool, true, cond, ◌&&◌, List, [], ◌∷◌, map, ◌==◌, nat_le, nat_lt, refl}
 use Rattle.std.proofs.Common.{ap, ◌∙◌, arith}
 use Rattle.std.specs.List.{AllByRecursion as All}
 use Rattle.std.proofs.lemmas.List.{length-map}
@@ -7,7 +7,7 @@ use Rattle.std.proofs.lemmas.Bool.{eqb-true, eq-eqb, and_parts, cond-true}
 use Rattle.wordlist.specs.Fields.{field, kind_of}
 use Rattle.wordlist.specs.Cutting.{body_of}
 use Rattle.listed.specs.declared.floor.Floor.{Floor}
-use Rattle.listed.specs.Makes.{GoodBody, GoodWords, Exact}
+use Rattle.listed.specs.Makes.{GoodBody, Exact}
 use Rattle.drawn.specs.Drawings.{corner_of, head_word, corner_word, drawn_make}
 
 head_word_spelled : (w : ℕ) → kind_of w ≡ 2 → field 9 19 w ≡ 0 → head_word (field 0 4 w) (field 4 5 w) ≡ w

@@ -1,4 +1,5 @@
 //! The drawn plan: its places are closed rings of corners.
+#![tactic(auto)]
 
 use listed::listed::Listed;
 

@@ -1,4 +1,5 @@
 //! What one pass over the floor of a plan tells of its places: which lies in which, which share a point, which have one.
+#![tactic(auto)]
 
 use sets::Set64;
 

@@ -41,7 +41,7 @@ fn note(lies: &mut [Set64; 64], shares: &mut [Set64; 64], count: usize, at: Set6
 
 /// The type of each place, none at a number that is not in use.
 fn types_of<P: Plan>(plan: &P) -> [Option<u8>; 64]
-    ensures { (k : ℕ) → k < most_places → slice_index_or result k Nothing ≡ type_at (hall plan.now) k }
+    ensures { (k : ℕ) → k < most_places → slice_index_or result k Nothing ≡ type_at (P.hall plan.now) k }
 {
     let mut types = [None; 64];
     for place in 0..64 {
@@ -53,8 +53,8 @@ fn types_of<P: Plan>(plan: &P) -> [Option<u8>; 64]
 impl Survey {
     /// Surveys a plan: each point of the floor is asked for once, and tells of all pairs of places at once.
     pub fn of<P: Plan>(plan: &P) -> Survey
-        ensures value { result ≡ survey_of (hall plan.now) }
-        ensures tied { Tied (hall plan.now) result }
+        ensures value { result ≡ survey_of (P.hall plan.now) }
+        ensures tied { Tied (P.hall plan.now) result }
     {
         let count = plan.count();
         let types = types_of(plan);

@@ -1,5 +1,5 @@
 -- A word is its fields, so a place of cells gives back the words that it was read from.
-use Rattle.std.specs.Prelude.{◌≡◌, ℕ, ◌/◌, ◌<◌, ◌≤◌, Bool, true, false, List, [], ◌∷◌, map, length, take, slice_index, refl}
+use Rattle.std.specs.Prelude.{◌≡◌, ℕ, ◌/◌, ◌<◌, ◌≤◌, Bool, false, List, [], ◌∷◌, map, length, take, slice_index, refl}
 use Rattle.std.proofs.Common.{sym, ap, ◌∙◌, arith}
 use Rattle.std.specs.List.{AllByRecursion as All}
 use Rattle.std.proofs.lemmas.Bool.{eqb-true}
@@ -8,7 +8,7 @@ use Rattle.sets.specs.Member.{member}
 use Rattle.sets.proofs.Bits.{member_past}
 use Rattle.wordlist.specs.Fields.{field, kind_of}
 use Rattle.listed.specs.declared.floor.Floor.{Floor}
-use Rattle.listed.specs.Makes.{GoodBody, GoodWords, Exact}
+use Rattle.listed.specs.Makes.{GoodBody, Exact}
 use Rattle.cells.specs.CellSets.{cell_side, in_cells, row_of, head_word, row_word, cells_make}
 
 head_word_spelled : (w : ℕ) → kind_of w ≡ 4 → field 4 24 w ≡ 0 → head_word (field 0 4 w) ≡ w

@@ -1,4 +1,5 @@
 //! The cell plan: its places are sets of cells.
+#![tactic(auto)]
 
 use listed::listed::Listed;
 

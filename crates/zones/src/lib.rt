@@ -1,4 +1,5 @@
 //! Zones over any plan, read from a list of words.
+#![tactic(auto)]
 
 pub mod draft;
 pub mod zone;

@@ -12,7 +12,7 @@ use sets::Set64;
 impl<P: Plan> Zones<P> {
     /// How many places there are, those below and the zones.
     fn number(&self) -> usize
-        ensures { result ≡ length (zone_hall (hall self.now.below) (self.now.zones.items)).places }
+        ensures { result ≡ length (zone_hall (P.hall self.now.below) (self.now.zones.items)).places }
     {
         (self.below.count() + self.zones.len()).min(64)
     }

@@ -17,7 +17,7 @@ impl<P: Plan> Zones<P> {
     /// The plan alone, with no zone over it. All the memory that the zones will use is taken here;
     /// where there is none, the plan comes back.
     pub fn over(heap: Global, below: P) -> Result<Zones<P>, P>
-        ensures { elim result [ Ok z ↦ (z.below ≡ below) × (z.zones.items ≡ []) × (progress_of z.draft ≡ start (length (hall below).places)) | Err back ↦ back ≡ below ] }
+        ensures { elim result [ Ok z ↦ (z.below ≡ below) × (z.zones.items ≡ []) × (progress_of z.draft ≡ start (length (P.hall below).places)) | Err back ↦ back ≡ below ] }
     {
         let Ok(zones) = Vec::with_capacity(heap, 64) else {
             return Err(below);
@@ -34,12 +34,12 @@ impl<P: Plan> Zones<P> {
 
     /// The zones become those that the words say; refused words leave them as they were.
     pub fn read(&mut self, words: &[u32]) -> Result<(), RecordFault>
-        ensures answer { result ≡ answered (zones_from (length (hall self.old.below).places) words.now) }
-        ensures after { self.new.zones.items ≡ replaced self.old.zones.items (zones_from (length (hall self.old.below).places) words.now) }
+        ensures answer { result ≡ answered (zones_from (length (P.hall self.old.below).places) words.now) }
+        ensures after { self.new.zones.items ≡ replaced self.old.zones.items (zones_from (length (P.hall self.old.below).places) words.now) }
         ensures below { self.new.below ≡ self.old.below }
-        ensures draft { progress_of self.new.draft ≡ start (length (hall self.old.below).places) }
+        ensures draft { progress_of self.new.draft ≡ start (length (P.hall self.old.below).places) }
         ensures exactly { result ≡ Ok tt → map zone_word self.new.zones.items ≡ words.now }
-        ensures all { result ≡ Ok tt → in_use (length (hall self.old.below).places) self.new.zones.items ≡ self.new.zones.items }
+        ensures all { result ≡ Ok tt → in_use (length (P.hall self.old.below).places) self.new.zones.items ≡ self.new.zones.items }
     {
         let places = self.below.count();
         self.draft.start(places);

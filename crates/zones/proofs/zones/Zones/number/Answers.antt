@@ -1,5 +1,5 @@
 -- `number`: the zones in use and the places below.
-use Rattle.std.proofs.Common.{◌≡◌, vec_items, arith}
+use Rattle.std.proofs.Common.{vec_items, arith}
 use Rattle.zones.specs.PilesLemmas.{hall_length}
 use Rattle.zones.proofs.zones.Zones.number.Goals as goal
 

@@ -1,5 +1,5 @@
 -- `places_at`: the places below are decided first, then one zone after another; off the floor nothing is covered.
-use Rattle.std.proofs.Common.{◌≡◌, ℕ, ◌+◌, ◌-◌, ◌<◌, Bool, vec_items, sym, ◌∙◌, subst, inl, inr, arith}
+use Rattle.std.proofs.Common.{ℕ, ◌+◌, ◌-◌, ◌<◌, Bool, vec_items, sym, ◌∙◌, subst, inl, inr, arith}
 use Rattle.sets.specs.declared.Set64.{Set64}
 use Rattle.plan.specs.Hall.{covers_at}
 use Rattle.plan.proofs.Rows.{covers_past}

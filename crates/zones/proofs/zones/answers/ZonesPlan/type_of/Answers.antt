@@ -1,5 +1,5 @@
 -- `type_of`: a number below the first zone is a place below, any other in use a zone.
-use Rattle.std.proofs.Common.{◌-◌, vec_items, sym, ap, ◌∙◌, arith}
+use Rattle.std.proofs.Common.{◌-◌, vec_items, ◌∙◌, arith}
 use Rattle.zones.specs.PilesLemmas.{hall_length, type_low, type_zone}
 use Rattle.zones.proofs.zones.answers.ZonesPlan.type_of.Goals as goal
 

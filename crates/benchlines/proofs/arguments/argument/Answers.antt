@@ -13,8 +13,8 @@ returns-then-line-at-ne32 c =
     sym (cond-false _ _ _ (ne_eqb (get_or c.args.line.now c.args.at 0) space c.if-line-at-ne32.true))
     ∙ sym (at_drop_more (argument_of c.args.most) c.args.line.now c.args.at 0 (omega arith))
 
-pub returns-in-default : goal.returns-in-default
-returns-in-default c = argument_step c.args.line.now c.args.at c.args.most _ (omega arith) c.if-line-at-ne32.false c.in-default.ensures.value
+pub returns-in_default : goal.returns-in_default
+returns-in_default c = argument_step c.args.line.now c.args.at c.args.most _ (omega arith) c.if-line-at-ne32.false c.in_default.ensures.value
 
 pub returns : goal.returns
 returns c = c.digits.ensures ∙ argument_step c.args.line.now c.args.at c.args.most _ (omega arith) c.if-line-at-ne32.false c.in-Some.ensures.value

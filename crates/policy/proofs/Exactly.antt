@@ -1,20 +1,20 @@
 -- An accepted list is exactly the words of the policy that it gave.
-use Rattle.std.proofs.Common.{◌≡◌, ℕ, ◌+◌, ◌*◌, ◌^◌, ◌<◌, ◌≤◌, Bool, true, false, cond, ◌&&◌, eqb, ltb, leb, List, [], ◌∷◌, ◌++◌, map, length, Ok, Err, Result, sym, refl, ap, ◌∙◌, subst, arith}
+use Rattle.std.proofs.Common.{◌≡◌, ℕ, true, false, cond, eqb, leb, List, [], ◌∷◌, ◌++◌, map, length, Ok, Err, Result, sym, refl, ap, ◌∙◌, arith}
 use Rattle.std.proofs.lemmas.List.{append_assoc, append-nil, map-append}
-use Rattle.std.proofs.lemmas.Bool.{and_parts, both_ways, cond-true, cond-false, eqb-true, ne_eqb}
+use Rattle.std.proofs.lemmas.Bool.{both_ways, cond-true, cond-false, eqb-true, ne_eqb}
 use Rattle.wordlist.specs.declared.faults.RecordFault.{RecordFault}
 use Rattle.wordlist.specs.Fields.{field, kind_of}
 use Rattle.wordlist.specs.Reading.{Answer, read_of}
-use Rattle.wordlist.specs.Spelling.{Passes, Adds}
+use Rattle.wordlist.specs.Spelling.{Adds}
 use Rattle.wordlist.proofs.Spelling.{read_spelled, read_ends}
 use Rattle.records.specs.Words.{badges_of, schema_of, parent_of, role_of, schema_permission_of, role_permission_of, assignment_of, badges_word, schema_word, parent_word, role_word, schema_permission_word, role_permission_word, assignment_word}
 use Rattle.records.proofs.Spelled.{badges_word_spelled, schema_word_spelled, parent_word_spelled, role_word_spelled, schema_permission_word_spelled, role_permission_word_spelled, assignment_word_spelled}
 use Rattle.policy.specs.Contents.{Content, none}
-use Rattle.policy.specs.Rules.{policy_rules, turn_as, sound_as, with_as, least_kind}
+use Rattle.policy.specs.Rules.{policy_rules, sound_as, with_as, least_kind}
 use Rattle.wordlist.specs.Outcomes.{given, answered, replaced}
 use Rattle.policy.specs.Reading.{content_from}
 use Rattle.policy.specs.Spelling.{record_words, spelled}
-use Rattle.policy.proofs.Order.{Turned, front, schema, parent, role, schema_permission, role_permission, assignment, Later, turned, higher, no_assignments, no_role_permissions, no_schema_permissions, no_roles, no_parents}
+use Rattle.policy.proofs.Order.{Turned, front, schema, parent, role, schema_permission, role_permission, assignment, turned, higher, no_assignments, no_role_permissions, no_schema_permissions, no_roles, no_parents}
 use Rattle.policy.proofs.Turns.{sound_badges_turn, sound_parent_turn, sound_role_turn, sound_schema_permission_turn, sound_role_permission_turn, sound_assignment_turn}
 
 -- the words of what was read so far

@@ -1,5 +1,5 @@
 -- What a word that breaks no rule tells, by its kind.
-use Rattle.std.proofs.Common.{◌≡◌, ℕ, ◌<◌, ◌≤◌, Bool, true, false, cond, ◌&&◌, eqb, ltb, leb, sym, refl, ap, ◌∙◌, arith, leb-true}
+use Rattle.std.proofs.Common.{◌≡◌, ℕ, ◌<◌, ◌≤◌, Bool, true, false, cond, ◌&&◌, eqb, ltb, leb, sym, refl, ap, ◌∙◌, leb-true}
 use Rattle.std.proofs.lemmas.Bool.{and_parts, both_ways, cond-true, eqb-true, ltb-true}
 use Rattle.wordlist.specs.Fields.{field, kind_of}
 use Rattle.wordlist.specs.Reading.{passing, takes}

@@ -1,5 +1,5 @@
 -- What a policy says, as plain lists.
-use Rattle.std.specs.Prelude.{ℕ, Bool, List, [], length, vec_items, slice_index_or}
+use Rattle.std.specs.Prelude.{ℕ, Bool, List, [], vec_items, slice_index_or}
 use Rattle.keyed.specs.Orders.{has}
 use Rattle.keyed.specs.Models.{pair_less, triple_less}
 use Rattle.records.specs.declared.kinds.Schema.{Schema}

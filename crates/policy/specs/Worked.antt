@@ -1,5 +1,5 @@
 -- Worked lists: accepted ones, and one for each way to be refused.
-use Rattle.std.specs.Prelude.{◌≡◌, ℕ, zero, suc, List, [], ◌∷◌, length, Ok, Err}
+use Rattle.std.specs.Prelude.{◌≡◌, ℕ, zero, suc, List, [], ◌∷◌, Ok, Err}
 use Rattle.wordlist.specs.Reading.{Answer}
 use Rattle.wordlist.specs.declared.faults.WordFault.TheVariants.{Short, Foreign}
 use Rattle.wordlist.specs.declared.faults.RecordFault.TheVariants.{Word, OutOfTurn, Full, BadField}

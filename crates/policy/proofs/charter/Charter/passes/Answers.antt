@@ -1,4 +1,4 @@
-use Rattle.std.proofs.Common.{◌≡◌, ℕ, true, false, sym, ap, ◌∙◌, arith}
+use Rattle.std.proofs.Common.{◌≡◌, ℕ, true, false, sym, ◌∙◌, arith}
 use Rattle.wordlist.specs.Fields.{kind_of}
 use Rattle.policy.specs.Contents.{content_of}
 use Rattle.policy.specs.Rules.{turn_as, room_as, sound_as}

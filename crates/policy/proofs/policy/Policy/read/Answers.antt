@@ -20,7 +20,7 @@ returns c =
     elim c.if-is_ok.branch [
       | then-is_ok w ↦
           ap (λ v. content_of v.kept) w.self-is
-          ∙ ap content_of w.swap.ensures.x-after
+          ∙ ap content_of w.swap.ensures.x_after
           ∙ read_takes whole policy_rules none read cleared c.read-answer.result words c.read-answer.ensures c.clear.ensures old (sym c.is_ok.ensures.value ∙ w.if-is_ok.true)
       | else-is_ok w ↦
           ap (λ v. content_of v.kept) w.self-is

@@ -1,7 +1,7 @@
 -- A word is its fields, so a place of cells gives back the words that it was read from.
 use Rattle.std.specs.Prelude.{◌≡◌, ℕ, ◌/◌, ◌<◌, ◌≤◌, Bool, false, List, [], ◌∷◌, map, length, take, slice_index, refl}
 use Rattle.std.proofs.Common.{sym, ap, ◌∙◌, arith}
-use Rattle.std.specs.List.{AllByRecursion as All}
+use Rattle.std.specs.List.{AllByRecursion}
 use Rattle.std.proofs.lemmas.Bool.{eqb-true}
 use Rattle.std.proofs.lemmas.List.{get_or_past, get_or-take, length-take}
 use Rattle.sets.specs.Member.{member}
@@ -17,7 +17,7 @@ head_word_spelled w k u = omega arith
 row_word_spelled : (w : ℕ) → kind_of w ≡ 5 → field 16 12 w ≡ 0 → row_word (row_of w) ≡ w
 row_word_spelled w k u = omega arith
 
-rows_back : (f : Floor) (ws : List ℕ) → All (GoodBody cells_make f) ws → map row_word (map row_of ws) ≡ ws
+rows_back : (f : Floor) (ws : List ℕ) → AllByRecursion (GoodBody cells_make f) ws → map row_word (map row_of ws) ≡ ws
 rows_back f [] a = refl
 rows_back f (w ∷ ws) a = ap (λ v. v ∷ map row_word (map row_of ws)) (row_word_spelled w a.0.kind (eqb-true (field 16 12 w) 0 a.0.sound)) ∙ ap (λ vs. w ∷ vs) (rows_back f ws a.1)
 

@@ -1,7 +1,7 @@
 -- A word is its fields, so a drawn place gives back the words that it was read from.
 use Rattle.std.specs.Prelude.{◌≡◌, ℕ, Bool, true, cond, ◌&&◌, List, [], ◌∷◌, map, ◌==◌, nat_le, nat_lt, refl}
 use Rattle.std.proofs.Common.{ap, ◌∙◌, arith}
-use Rattle.std.specs.List.{AllByRecursion as All}
+use Rattle.std.specs.List.{AllByRecursion}
 use Rattle.std.proofs.lemmas.List.{length-map}
 use Rattle.std.proofs.lemmas.Bool.{eqb-true, eq-eqb, and_parts, cond-true}
 use Rattle.wordlist.specs.Fields.{field, kind_of}
@@ -23,7 +23,7 @@ none_set a b n e = eqb-true n 0 (and_parts b (n == 0) (and_parts a (b && n == 0)
 corner_back : (f : Floor) (w : ℕ) → GoodBody drawn_make f w → corner_word (corner_of w) ≡ w
 corner_back f w g = corner_word_spelled w g.kind (none_set (nat_lt (field 0 8 w) f.width) (nat_lt (field 8 8 w) f.height) (field 16 12 w) g.sound)
 
-corners_back : (f : Floor) (ws : List ℕ) → All (GoodBody drawn_make f) ws → map corner_word (map corner_of ws) ≡ ws
+corners_back : (f : Floor) (ws : List ℕ) → AllByRecursion (GoodBody drawn_make f) ws → map corner_word (map corner_of ws) ≡ ws
 corners_back f [] a = refl
 corners_back f (w ∷ ws) a = ap (λ v. v ∷ map corner_word (map corner_of ws)) (corner_back f w a.0) ∙ ap (λ vs. w ∷ vs) (corners_back f ws a.1)
 

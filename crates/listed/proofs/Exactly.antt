@@ -1,6 +1,6 @@
 -- An accepted list is exactly the words of the layout that it gave.
 use Rattle.std.proofs.Common.{◌≡◌, ℕ, ◌+◌, ◌-◌, ◌≤◌, Bool, true, false, cond, ◌&&◌, eqb, List, [], ◌∷◌, ◌++◌, length, Ok, Err, Result, sym, refl, ap, ◌∙◌, arith, length-append}
-use Rattle.std.specs.List.{flat_map, AllByRecursion as All}
+use Rattle.std.specs.List.{flat_map, AllByRecursion}
 use Rattle.std.proofs.ByRecursion.{All-push}
 use Rattle.std.proofs.lemmas.List.{append_assoc, flat_map_more}
 use Rattle.std.proofs.lemmas.Bool.{eqb-true, eqb-false, and_parts}
@@ -25,7 +25,7 @@ module _ {P : Type 0} (m : Make P) where
   pub record Begun (f : Floor) (h : ℕ) (ws : List ℕ) (n : ℕ) : Type 0 where
     pub kind : kind_of h ≡ m.head
     pub sound : m.sound_head h ≡ true
-    pub each : All (GoodBody m f) ws
+    pub each : AllByRecursion (GoodBody m f) ws
     pub left : n + length ws ≡ body_of h
 
   -- the words of what was read so far

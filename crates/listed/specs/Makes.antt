@@ -1,6 +1,6 @@
 -- What a make of place says of its words.
 use Rattle.std.specs.Prelude.{◌≡◌, ℕ, Bool, true, List, ◌∷◌, length}
-use Rattle.std.specs.List.{AllByRecursion as All}
+use Rattle.std.specs.List.{AllByRecursion}
 use Rattle.plan.specs.Hall.{Place}
 use Rattle.wordlist.specs.Fields.{kind_of}
 use Rattle.wordlist.specs.Cutting.{body_of}
@@ -25,7 +25,7 @@ module _ {P : Type 0} (m : Make P) where
   pub record GoodWords (f : Floor) (h : ℕ) (ws : List ℕ) : Type 0 where
     pub kind : kind_of h ≡ m.head
     pub sound : m.sound_head h ≡ true
-    pub each : All (GoodBody f) ws
+    pub each : AllByRecursion (GoodBody f) ws
     pub whole : length ws ≡ body_of h
 
   -- a place gives back the words that it was read from

@@ -1,4 +1,5 @@
 //! Worked cases, each proved of the definitions that the contracts use.
+#![tactic(auto)]
 
 ghost use Rattle.cases.specs.Table.{Table};
 

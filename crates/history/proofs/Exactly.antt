@@ -14,7 +14,7 @@ use Rattle.calls.specs.declared.call.Answer.{Answer}
 use Rattle.calls.specs.declared.call.Answer.TheVariants.{Granted}
 use Rattle.calls.specs.declared.refusal.Refusal.{Refusal}
 use Rattle.calls.specs.Standing.{Standing, session_count, moved}
-use Rattle.history.specs.Questions.{is_enabled, serves, grants}
+use Rattle.history.specs.Questions.{is_enabled, may, serves, grants}
 use Rattle.history.specs.Refusals.{refusal}
 use Rattle.history.specs.Replies.{refused_or, granted_by}
 use Rattle.history.specs.History.{standing, kept_if, accepted, after}
@@ -107,15 +107,17 @@ granted_some : (o : Option ℕ) (r : ℕ) → granted_by o ≡ Granted r → o �
 granted_some None r e = let z : ◌≡◌ {A = ℕ} 0 1 = cc in absurd (omega arith)
 granted_some (Some k) r e = cc
 
--- a right that some role has is one that there can be
-right_within : (above : ℕ → ℕ → Bool) (c : Content) (r operation object : ℕ) → has_right above c r operation object ≡ true → (ltb 15 operation || ltb 255 object) ≡ false
-right_within above c r operation object h =
-    let found = (right_means above c r operation object).0 h in
+-- what some role may do is a right that there can be
+right_within : (g : Ground) (r operation object : ℕ) → may g operation object r ≡ true → (ltb 15 operation || ltb 255 object) ≡ false
+right_within g r operation object h =
+    let c = g.content in
+    let both = and_parts (ltb operation 16) (has_right g.above c r operation object) h in
+    let found = (right_means g.above c r operation object).0 both.1 in
     let a = found.0 in
-    let outer = and_parts (ltb a (length c.roles) && (ltb operation 16 && ltb object 256)) (role_permits c a operation object || schema_permits c (role_at c a).schema operation object) found.3 in
-    let inner = and_parts (ltb a (length c.roles)) (ltb operation 16 && ltb object 256) outer.0 in
-    let sides = and_parts (ltb operation 16) (ltb object 256) inner.1 in
-    or_from _ _ (le-ltb 15 operation (omega (arith, ltb-true _ _ sides.0))) (le-ltb 255 object (omega (arith, ltb-true _ _ sides.1)))
+    let outer = and_parts (ltb a (length c.roles) && (ltb operation 256 && ltb object 256)) (role_permits c a operation object || schema_permits c (role_at c a).schema operation object) found.3 in
+    let inner = and_parts (ltb a (length c.roles)) (ltb operation 256 && ltb object 256) outer.0 in
+    let sides = and_parts (ltb operation 256) (ltb object 256) inner.1 in
+    or_from _ _ (le-ltb 15 operation (omega (arith, ltb-true _ _ both.0))) (le-ltb 255 object (omega (arith, ltb-true _ _ sides.1)))
 
 module _ (g : Ground) (calls : List Call) (b s operation object : ℕ) where
   here : Standing
@@ -129,7 +131,7 @@ module _ (g : Ground) (calls : List Call) (b s operation object : ℕ) where
   unfolding here test
   passes r h =
       let outer = and_parts (serves g here s operation object r) (is_enabled g here r) h in
-      let inner = and_parts (here.active s r) (has_right g.above g.content r operation object) outer.0 in
+      let inner = and_parts (here.active s r) (may g operation object r) outer.0 in
       record { active = (active_means g calls b s r).0 inner.0; enabled = outer.1; entitles = inner.1 }
 
   does_pass : (r : ℕ) → Serves g calls b s operation object r → test r ≡ true
@@ -151,7 +153,7 @@ module _ (g : Ground) (calls : List Call) (b s operation object : ℕ) where
         let l = live_after g b calls s r ((active_means g calls b s r).1 v.serves.active) in
         let lower : (q : ℕ) → q < r → test q ≡ false =
         λ q lt. ⊎_elim (λ (h : test q ≡ true). absurd (v.lowest q lt (passes q h))) (λ (h : test q ≡ false). h) (cases_Bool (test q)) in
-        granted_reply g here b s operation object r l.badge l.session l.opened (right_within g.above g.content r operation object v.serves.entitles)
+        granted_reply g here b s operation object r l.badge l.session l.opened (right_within g r operation object v.serves.entitles)
         (lowest_is test (length g.content.roles) r l.role (does_pass r v.serves) lower);
   }
 

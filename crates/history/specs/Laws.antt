@@ -4,7 +4,6 @@ use Rattle.plan.specs.Hall.{Hall}
 use Rattle.plan.specs.Lying.{lies_in}
 use Rattle.policy.specs.Contents.{Content}
 use Rattle.rights.specs.Ancestors.{ancestor}
-use Rattle.rights.specs.Rights.{has_right}
 use Rattle.sealing.specs.Outcome.{sealing}
 use Rattle.sealing.specs.Ground.{Ground, ground_of}
 use Rattle.calls.specs.declared.call.Call.{Call}
@@ -12,7 +11,7 @@ use Rattle.calls.specs.declared.call.Event.{Event}
 use Rattle.calls.specs.declared.call.Event.TheVariants.{Report, Miss, Open, Close, Activate, Drop, Where, Enabled, Roles, Ask}
 use Rattle.calls.specs.declared.call.Answer.{Answer}
 use Rattle.calls.specs.declared.call.Answer.TheVariants.{Granted}
-use Rattle.history.specs.Questions.{is_enabled}
+use Rattle.history.specs.Questions.{is_enabled, may}
 use Rattle.history.specs.History.{accepted, after, answer, answers_after}
 
 -- an event of badge b
@@ -52,11 +51,11 @@ ActiveMeans = (g : Ground) (calls : List Call) (b s r : ℕ) → Decides ((after
 abbrev pub ClosedEmpty : Type 0
 ClosedEmpty = (g : Ground) (calls : List Call) (b s r : ℕ) → (after g calls b).opened s ≡ false → (after g calls b).active s r ≡ false
 
--- role r is active in the session and enabled for the badge by the calls, and has the right
+-- role r is active in the session and enabled for the badge by the calls, and may do the operation on the object
 pub record Serves (g : Ground) (calls : List Call) (b s operation object r : ℕ) : Type 0 where
   pub active : ActiveBy (accepted g calls) b s r
   pub enabled : is_enabled g (after g calls b) r ≡ true
-  pub entitles : has_right g.above g.content r operation object ≡ true
+  pub entitles : may g operation object r ≡ true
 
 -- the lowest-numbered such role
 pub record LowestServes (g : Ground) (calls : List Call) (b s operation object r : ℕ) : Type 0 where

@@ -1,5 +1,5 @@
 -- What is asked of a badge by how it stands.
-use Rattle.std.specs.Prelude.{ℕ, Bool, false, ◌&&◌, Some, None, Option}
+use Rattle.std.specs.Prelude.{ℕ, Bool, false, ◌&&◌, Some, None, Option, nat_lt}
 use Rattle.rights.specs.Rights.{has_right}
 use Rattle.sealing.specs.Ground.{Ground}
 use Rattle.sealing.specs.Located.{bears, where_at, held}
@@ -9,6 +9,10 @@ use Rattle.calls.specs.Standing.{Standing}
 abbrev pub at_position : {A : Type 0} → Option (ℕ × ℕ) → A → (ℕ → ℕ → A) → A
 at_position None otherwise f = otherwise
 at_position (Some p) otherwise f = f p.0 p.1
+
+-- the operation is one that there can be, below 16, and role r has the right
+abbrev pub may : Ground → ℕ → ℕ → ℕ → Bool
+may g operation object r = nat_lt operation 16 && has_right g.above g.content r operation object
 
 module _ (g : Ground) (st : Standing) where
   -- the place where the badge is for role r
@@ -23,9 +27,9 @@ module _ (g : Ground) (st : Standing) where
   abbrev pub is_patient : ℕ → Bool
   is_patient r = at_position st.position false (λ _ _. bears g r st.misses)
 
-  -- role r is active in session s and has the right
+  -- role r is active in session s and may do the operation on the object
   abbrev pub serves : ℕ → ℕ → ℕ → ℕ → Bool
-  serves s operation object r = st.active s r && has_right g.above g.content r operation object
+  serves s operation object r = st.active s r && may g operation object r
 
   -- such a role bears the misses
   abbrev pub serves_patient : ℕ → ℕ → ℕ → ℕ → Bool

@@ -1,5 +1,6 @@
 //! What follows from a policy: which schemas are reached from which, the ancestors of each role, and the rights and
 //! roles that come by them.
+#![tactic(auto)]
 
 pub mod ancestry;
 pub mod carried;

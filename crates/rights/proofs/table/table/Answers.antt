@@ -3,7 +3,6 @@ use Rattle.std.proofs.Common.{◌≡◌, ◌<◌, ◌≤◌, Bool, ◌&&◌, ltb
 use Rattle.std.proofs.lemmas.Bool.{cases_eq, cases_lt, lt-ltb, le-ltb}
 use Rattle.sets.specs.declared.Set64.{Set64}
 use Rattle.sets.specs.Member.{member}
-use Rattle.rights.specs.Rows.{cell}
 use Rattle.rights.proofs.Entries.{cell_past}
 use Rattle.rights.proofs.table.table.Goals as goal
 

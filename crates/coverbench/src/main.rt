@@ -1,4 +1,5 @@
 //! Asks every point of a 256 by 256 floor of 64 drawn places of 16 corners, and prints how often a place covers a point.
+#![tactic(auto)]
 
 use anyhow::anyhow;
 use drawn::outline::Outline;

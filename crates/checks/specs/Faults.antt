@@ -3,8 +3,6 @@ use Rattle.std.specs.Prelude.{ℕ, Bool, not, ◌&&◌, length, Option, nat_lt}
 use Rattle.std.specs.Option.{option_or}
 use Rattle.sets.specs.Bounds.{first_of, when}
 use Rattle.records.specs.declared.kinds.Schema.{Schema}
-use Rattle.records.specs.declared.kinds.Parent.{Parent}
-use Rattle.records.specs.declared.kinds.Role.{Role}
 use Rattle.policy.specs.Contents.{Content, schema_at, parent_at, role_at}
 use Rattle.checks.specs.declared.faults.SealFault.{SealFault}
 use Rattle.checks.specs.declared.faults.SealFault.TheVariants.{Empty, Misplaced, Outside, Overlap, Unlike, Impatient}

@@ -1,5 +1,5 @@
 -- `first_overlap`: a loop that ends has found nothing of its level; the first hit is the first at each of the three.
-use Rattle.std.proofs.Common.{◌≡◌, ◌<◌, length, sym, ap, ◌∙◌, arith}
+use Rattle.std.proofs.Common.{◌≡◌, length, sym, ap, ◌∙◌, arith}
 use Rattle.sets.specs.Bounds.{first_of}
 use Rattle.sets.proofs.Bounds.{first_more, first_here}
 use Rattle.policy.specs.Policies.{says}
@@ -12,7 +12,7 @@ loop-e-preserved c =
     let v = kept c.args.self.survey.now in
     let p = says c.args.self.policy.now in
     let i = c.loop-e.invariant in
-    (i.0, i.1, i.2, first_more (overlap v p c.search.s c.loop-l.l) c.loop-e.e i.3 (sym c.overlap.ensures ∙ c.in-default.is))
+    (i.0, i.1, i.2, first_more (overlap v p c.search.s c.loop-l.l) c.loop-e.e i.3 (sym c.overlap.ensures ∙ c.in_default.is))
 
 pub loop-l-preserved : goal.loop-l-preserved
 loop-l-preserved c =

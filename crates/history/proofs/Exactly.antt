@@ -3,7 +3,7 @@ use Rattle.std.proofs.Common.{◌≡◌, ℕ, ◌<◌, Bool, true, false, cond, 
 use Rattle.std.proofs.lemmas.Bool.{cases_Bool, and_parts, and_from, le-ltb, ltb-true, eqb-true, or_from, false≢true}
 use Rattle.sets.specs.Bounds.{lowest}
 use Rattle.sets.proofs.Bounds.{lowest_passes}
-use Rattle.policy.specs.Contents.{Content, role_at, role_permits, schema_permits}
+use Rattle.policy.specs.Contents.{role_at, role_permits, schema_permits}
 use Rattle.rights.specs.Rights.{has_right}
 use Rattle.rights.proofs.Lending.{right_means}
 use Rattle.sealing.specs.Ground.{Ground, ground_of}

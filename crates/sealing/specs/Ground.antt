@@ -1,10 +1,10 @@
 -- What calls and questions ask of a plan and the policy sealed over it.
-use Rattle.std.specs.Prelude.{ℕ, Bool, ◌&&◌, ltb, length, Ok, Err, Option, Result}
+use Rattle.std.specs.Prelude.{ℕ, Bool, ◌&&◌, length, Ok, Err, Option, Result}
 use Rattle.sets.specs.Bounds.{lowest}
 use Rattle.plan.specs.Hall.{Hall, type_at, covers_at, on_floor as is_on_floor}
 use Rattle.plan.specs.Lying.{lies_in}
 use Rattle.survey.specs.Kept.{is_type}
-use Rattle.policy.specs.Contents.{Content, role_at}
+use Rattle.policy.specs.Contents.{Content}
 use Rattle.checks.specs.declared.faults.SealFault.{SealFault}
 use Rattle.rights.specs.Ancestors.{ancestor}
 use Rattle.rights.specs.Extents.{extent_holds}

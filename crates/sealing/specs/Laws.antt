@@ -1,9 +1,7 @@
 -- What holds of a policy that was sealed, in the words of places and roles.
 use Rattle.std.specs.Prelude.{◌≡◌, ℕ, ◌<◌, ◌≤◌, true, List, length, Some, Ok}
-use Rattle.plan.specs.Hall.{Hall, type_at, covers_at}
+use Rattle.plan.specs.Hall.{Hall, type_at}
 use Rattle.plan.specs.Lying.{has_point, lies_in, shares}
-use Rattle.records.specs.declared.kinds.Schema.{Schema}
-use Rattle.records.specs.declared.kinds.Role.{Role}
 use Rattle.policy.specs.Contents.{Content, schema_at, role_at}
 use Rattle.checks.specs.Faults.{schema_of_role, child_of, parent_of}
 use Rattle.rights.specs.Ancestors.{ancestor}

@@ -1,6 +1,5 @@
 -- Where a badge is for a role, and whether the role is enabled there.
 use Rattle.std.specs.Prelude.{ℕ, Bool, false, cond, Some, None, Option, nat_le}
-use Rattle.records.specs.declared.kinds.Schema.{Schema}
 use Rattle.checks.specs.Faults.{schema_of_role}
 use Rattle.sealing.specs.Ground.{Ground}
 

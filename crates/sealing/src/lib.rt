@@ -1,3 +1,4 @@
 //! What holds once a policy is sealed over a plan.
+#![tactic(auto)]
 
 pub mod laws;

@@ -1,5 +1,5 @@
 -- A policy without badges and records says nothing, and so does a site with it.
-use Rattle.std.proofs.Common.{◌≡◌, ℕ, Bool, false, ◌&&◌, ltb, length, sym, ap, ◌∙◌, arith}
+use Rattle.std.proofs.Common.{◌≡◌, ℕ, Bool, false, ltb, arith}
 use Rattle.std.proofs.lemmas.List.{nil_from_length}
 use Rattle.std.proofs.lemmas.Bool.{le-ltb, and_left}
 use Rattle.policy.specs.Contents.{Content, none}

@@ -1,4 +1,5 @@
 -- The lemmas of this crate.
 pub mod Blanks
 pub mod Grounds
+pub mod Rights
 pub mod Sealings

@@ -1,5 +1,5 @@
 -- What sealing comes to, step by step.
-use Rattle.std.proofs.Common.{◌≡◌, ℕ, Bool, true, false, cond, eqb, ltb, List, length, Ok, Err, Option, Result, sym, refl, ap, ◌∙◌, ⊎_elim, arith}
+use Rattle.std.proofs.Common.{◌≡◌, ℕ, Bool, true, false, cond, eqb, List, length, Ok, Err, Option, Result, sym, ap, ◌∙◌, ⊎_elim, arith}
 use Rattle.std.proofs.lemmas.Bool.{cases_Bool, eq-eqb, le-ltb, false≢true}
 use Rattle.wordlist.specs.declared.faults.RecordFault.{RecordFault}
 use Rattle.wordlist.specs.Reading.{Answer, run, ended}
@@ -9,10 +9,10 @@ use Rattle.policy.specs.Contents.{Content, none}
 use Rattle.policy.specs.Reading.{content_from}
 use Rattle.policy.specs.Rules.{policy_rules}
 use Rattle.checks.specs.declared.faults.SealFault.{SealFault}
-use Rattle.checks.specs.declared.faults.SealFault.TheVariants.{Record, Sealed}
+use Rattle.checks.specs.declared.faults.SealFault.TheVariants.{Sealed}
 use Rattle.checks.specs.Sight.{sight_of}
 use Rattle.checks.specs.Faults.{first_fault}
-use Rattle.sealing.specs.Outcome.{unless, allowed, sealing, is_sealed, sealing_after}
+use Rattle.sealing.specs.Outcome.{unless, allowed, sealing, sealing_after}
 
 -- an accepted reading gives what is kept after it
 pub accepted_is : (o : Result Content RecordFault) (old new : Content) → Ok tt ≡ answered o → new ≡ replaced old o → o ≡ Ok new

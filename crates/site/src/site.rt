@@ -1,6 +1,5 @@
 //! A plan with the policy that is sealed over it.
 
-use plan::Plan;
 use policy::policy::Policy;
 use sets::Set64;
 
@@ -13,7 +12,7 @@ ghost use Rattle.site.specs.Blank.{record_count};
 
 /// A plan, the policy, and what sealing found of both. Before sealing the policy has no badges and no records.
 #[derive(Drop)]
-pub struct Site<P: Plan> {
+pub struct Site<P> {
     plan: P,
     policy: Policy,
     /// Number p is in entry r when place p lies in the extent of role r.

@@ -1,5 +1,5 @@
 -- `new`: nothing is sealed, and nothing is kept.
-use Rattle.std.proofs.Common.{◌≡◌, length, sym, refl, ◌∙◌}
+use Rattle.std.proofs.Common.{length, sym, refl, ◌∙◌}
 use Rattle.plan.specs.Lying.{lies_in}
 use Rattle.survey.proofs.Cells.{cell_none}
 use Rattle.site.proofs.Blanks.{holds_nothing, nothing_above}

@@ -1,5 +1,5 @@
 -- `seal`: the words, the checks, and what is kept.
-use Rattle.std.proofs.Common.{◌≡◌, Bool, Some, None, Ok, sym, refl, ap, ◌∙◌, arith}
+use Rattle.std.proofs.Common.{◌≡◌, Some, None, Ok, sym, refl, ap, ◌∙◌, arith}
 use Rattle.std.proofs.lemmas.Bool.{ltb-false}
 use Rattle.policy.specs.Policies.{says}
 use Rattle.policy.specs.Reading.{content_from}
@@ -28,12 +28,12 @@ returns-in-Some g c =
     }
 
 -- a policy that was read has badges
-pub invariant-of-self-2 : goal.invariant-of-self-2
-invariant-of-self-2 g c =
+pub invariant_of-self-2 : goal.invariant_of-self-2
+invariant_of-self-2 g c =
     let ws = c.args.words.now in
     let new = says c.read.new.self in
     let read : content_from ws ≡ Ok new = accepted_is (content_from ws) _ new c.in_ok-read.ensures.answer c.read.ensures.after in
-    ((λ z. absurd (read_has_badges ws new read z)), tt)
+    record { blank = λ z. absurd (read_has_badges ws new read z) }
 
 pub returns : goal.returns
 returns g c =
@@ -45,7 +45,7 @@ returns g c =
     let tied = c.of-survey.ensures.tied in
     let unsealed : old.badges ≡ 0 = omega (arith, ltb-false 0 old.badges (sym c.is_sealed.ensures ∙ c.if-is_sealed.false)) in
     let read : content_from ws ≡ Ok new = accepted_is (content_from ws) old new c.in_ok-read.ensures.answer c.read.ensures.after in
-    let is = outcome_is old h ws new None unsealed read (sym c.in-default.is ∙ c.first_fault.ensures.meant h tied) in
+    let is = outcome_is old h ws new None unsealed read (sym c.in_default.is ∙ c.first_fault.ensures.meant h tied) in
     record {
       answer = sym (ap sealed_or is);
       plan = refl;

@@ -1,5 +1,7 @@
 //! Checks the text of a floor plan: prints what it finds, and says whether all of it is accepted.
 
+#![tactic(auto)]
+
 pub mod faults;
 pub mod sections;
 pub mod show;

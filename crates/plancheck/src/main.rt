@@ -1,5 +1,7 @@
 //! Reads the text of a floor plan, accepts it or tells its fault, and shows what each place covers.
 
+#![tactic(auto)]
+
 use anyhow::anyhow;
 use checking::sections::check;
 use std::env;

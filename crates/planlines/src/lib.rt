@@ -1,5 +1,7 @@
 //! The lines that plancheck prints for a script to read.
 
+#![tactic(auto)]
+
 ghost use Rattle.std.specs.Prelude.{◌≡◌, IfOk, string_bytes};
 ghost use Rattle.policy.specs.Policies.{says};
 ghost use Rattle.planlines.specs.Lines.{plan_line as plan_line_spec, zones_line as zones_line_spec, place_line as place_line_spec, policy_line as policy_line_spec, fault_line as fault_line_spec, map_line as map_line_spec};
@@ -12,7 +14,7 @@ use wordlist::faults::Told;
 
 /// A plan was read: its floor and the number of its places.
 pub fn plan_line<P: Plan>(heap: Global, plan: &P) -> Result<String, AllocError>
-    ensures { IfOk result (λ s. string_bytes s ≡ plan_line_spec (hall plan.now)) }
+    ensures { IfOk result (λ s. string_bytes s ≡ plan_line_spec (P.hall plan.now)) }
 {
     let width = plan.width();
     let height = plan.height();
@@ -22,7 +24,7 @@ pub fn plan_line<P: Plan>(heap: Global, plan: &P) -> Result<String, AllocError>
 
 /// Zones were put over a plan: the number of places in all.
 pub fn zones_line<P: Plan>(heap: Global, plan: &P) -> Result<String, AllocError>
-    ensures { IfOk result (λ s. string_bytes s ≡ zones_line_spec (hall plan.now)) }
+    ensures { IfOk result (λ s. string_bytes s ≡ zones_line_spec (P.hall plan.now)) }
 {
     let count = plan.count();
     format!(in heap; "zones ok {count}")
@@ -41,7 +43,7 @@ pub fn policy_line(heap: Global, policy: &Policy) -> Result<String, AllocError>
 
 /// The type of a place and how many points it covers; a number not in use counts as type 0.
 pub fn place_line<P: Plan>(heap: Global, plan: &P, place: usize) -> Result<String, AllocError>
-    ensures { IfOk result (λ s. string_bytes s ≡ place_line_spec (hall plan.now) place) }
+    ensures { IfOk result (λ s. string_bytes s ≡ place_line_spec (P.hall plan.now) place) }
 {
     let ty = plan.type_of(place).unwrap_or(0);
     let count = points(plan, place);

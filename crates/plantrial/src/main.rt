@@ -1,5 +1,7 @@
 //! Checks many texts, one after another: each begins with a line `=== NAME`, and what plancheck prints for it follows its name.
 
+#![tactic(auto)]
+
 use checking::sections::check;
 use std::io::{Read, Write};
 

@@ -2,12 +2,11 @@
 use Rattle.std.specs.Prelude.{ℕ, Bool, true, false, cond, List, length, is_ok, Some, None, Ok, Err, Option, Result}
 use Rattle.plan.specs.Hall.{Hall}
 use Rattle.wordlist.specs.declared.faults.RecordFault.{RecordFault}
-use Rattle.listed.specs.Layouts.{Layout, hall_of}
+use Rattle.listed.specs.Layouts.{hall_of}
 use Rattle.listed.specs.Makes.{Make}
 use Rattle.listed.specs.Reading.{layout_from}
 use Rattle.drawn.specs.Drawings.{drawn_make}
 use Rattle.cells.specs.CellSets.{cells_make}
-use Rattle.zones.specs.declared.zone.Zone.{Zone}
 use Rattle.zones.specs.Piles.{zone_hall}
 use Rattle.zones.specs.Reading.{zones_from}
 use Rattle.policy.specs.Reading.{content_from}

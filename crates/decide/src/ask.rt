@@ -1,6 +1,6 @@
 //! By which role a right is granted, and which roles are active and enabled.
 
-ghost use Rattle.std.specs.Prelude.{◌≡◌};
+ghost use Rattle.std.specs.Prelude.{◌≡◌, ⊤};
 ghost use Rattle.calls.specs.Kept.{standing_of};
 ghost use Rattle.calls.specs.declared.call.Event.TheVariants.{Roles, Ask};
 ghost use Rattle.decide.specs.Answers.{gathered as gathered_by, granted};

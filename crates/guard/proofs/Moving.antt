@@ -1,12 +1,12 @@
 -- How an accepted event moves the badge that it names, and a call what a guard keeps.
-use Rattle.std.proofs.Common.{◌≡◌, ℕ, ◌<◌, ◌≤◌, Bool, true, false, cond, eqb, List, ◌∷◌, length, get_or, set, Some, None, sym, refl, ap, ◌∙◌, ⊎_elim}
+use Rattle.std.proofs.Common.{◌≡◌, ℕ, ◌<◌, ◌≤◌, true, false, cond, eqb, List, length, get_or, set, None, sym, ap, ◌∙◌, ⊎_elim}
 use Rattle.std.proofs.lemmas.List.{get_or-set_same, get_or-set_other, get_or_default}
 use Rattle.std.proofs.lemmas.Bool.{cases_Bool, cond-true, cond-false, eqb-true, eqb-false}
 use Rattle.sealing.specs.Ground.{Ground}
 use Rattle.calls.specs.declared.badge.Badge.{Badge}
 use Rattle.calls.specs.declared.call.Event.{Event}
 use Rattle.calls.specs.Kept.{standing_of}
-use Rattle.calls.specs.Standing.{Standing, moved, moved_within, most_roles}
+use Rattle.calls.specs.Standing.{moved_within, most_roles}
 use Rattle.history.specs.Following.{settled_by, settled}
 use Rattle.history.specs.Laws.{call}
 use Rattle.history.specs.Refusals.{refusal}

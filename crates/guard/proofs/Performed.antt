@@ -1,13 +1,12 @@
 -- A call that is performed continues the list of calls.
-use Rattle.std.proofs.Common.{◌≡◌, ℕ, true, cond, eqb, leb, List, ◌∷◌, Some, None, Ok, Err, Option, Result, sym, refl, ap, ◌∙◌, subst, arith}
+use Rattle.std.proofs.Common.{◌≡◌, ℕ, true, cond, eqb, leb, Some, None, Ok, Err, Option, Result, sym, refl, ap, ◌∙◌, subst, arith}
 use Rattle.plan.specs.Hall.{Hall}
-use Rattle.policy.specs.Contents.{Content}
 use Rattle.sealing.specs.Ground.{Ground, ground_of}
 use Rattle.calls.specs.declared.call.Call.{Call}
 use Rattle.calls.specs.declared.call.Event.{Event}
 use Rattle.calls.specs.declared.call.Event.TheVariants.{Report, Miss, Open, Close, Activate, Drop, Where, Enabled, Roles, Ask}
 use Rattle.calls.specs.declared.call.Answer.{Answer}
-use Rattle.calls.specs.declared.call.Answer.TheVariants.{Done, Refused, Granted}
+use Rattle.calls.specs.declared.call.Answer.TheVariants.{Done, Refused}
 use Rattle.calls.specs.declared.refusal.Refusal.{Refusal}
 use Rattle.calls.specs.declared.refusal.Refusal.TheVariants.{UnknownBadge}
 use Rattle.calls.specs.Standing.{Standing, moved}
@@ -24,7 +23,7 @@ use Rattle.history.proofs.Exactly.{exactly}
 use Rattle.history.proofs.Following.{one_step}
 use Rattle.guard.specs.declared.guard.Guard.{Guard}
 use Rattle.guard.specs.Kept.{kept_of, ground_in}
-use Rattle.guard.specs.Stands.{Performs, Stands, Continues, Grants, UnsealedRefuses, kept_after}
+use Rattle.guard.specs.Stands.{Performs, Continues, Grants, UnsealedRefuses, kept_after}
 
 module _ {P : Type 0} (h : Hall) (g g' : Guard P) (e : Call) (a : Answer) where
   -- what was performed continues the calls

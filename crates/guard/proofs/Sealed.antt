@@ -1,5 +1,5 @@
 -- What an accepted sealing comes to.
-use Rattle.std.proofs.Common.{◌≡◌, ℕ, Bool, true, false, cond, List, Ok, Err, Result, sym, ap, ◌∙◌, ⊎_elim, arith}
+use Rattle.std.proofs.Common.{◌≡◌, ℕ, true, false, List, Ok, Err, Result, sym, ap, ◌∙◌, ⊎_elim, arith}
 use Rattle.std.proofs.lemmas.Bool.{cases_Bool, lt-ltb}
 use Rattle.plan.specs.Hall.{Hall}
 use Rattle.policy.specs.Contents.{Content}
@@ -14,7 +14,7 @@ use Rattle.sealing.proofs.Lineages.{sealed_lineage}
 use Rattle.site.proofs.Sealings.{read_has_badges}
 use Rattle.guard.specs.declared.guard.Guard.{Guard}
 use Rattle.guard.specs.Kept.{kept_of, ground_in}
-use Rattle.guard.specs.Stands.{Stands, Begins}
+use Rattle.guard.specs.Stands.{Begins}
 
 -- what was sealed is what the ground says now
 pub sealed_content : (o : Result Content SealFault) (old : Ground) (h : Hall) (new : Ground) → Ok tt ≡ sealed_or o → new ≡ ground_after old h o → (o ≡ Ok new.content) × (new ≡ ground_of h new.content)

@@ -1,9 +1,8 @@
 -- `seal`: the site is sealed, and all badges are forgotten.
-use Rattle.std.proofs.Common.{◌≡◌, ap, ◌∙◌}
+use Rattle.std.proofs.Common.{ap, ◌∙◌}
 use Rattle.policy.specs.Policies.{says}
 use Rattle.site.specs.declared.site.Site.{Site}
 use Rattle.site.specs.Kept.{ground}
-use Rattle.guard.specs.Kept.{ground_in}
 use Rattle.guard.proofs.Sealed.{begins_from}
 use Rattle.guard.proofs.guard.Guard.seal.Goals as goal
 

@@ -5,6 +5,7 @@ use benchlines::input::LONGEST_INPUT;
 use benchrun::session::session;
 use std::env;
 use std::io::Read;
+use std::process::ExitCode;
 
 fn help(rt: &HostRuntime) -> anyhow::Result<()> {
     println!(rt; "usage: bench [help] < CALLS")?;
@@ -65,6 +66,10 @@ fn run(rt: &HostRuntime) -> anyhow::Result<()> {
     }
 }
 
-fn main(rt: HostRuntime) -> anyhow::Result<()> {
-    run(&rt)
+// What went wrong is said by the status alone, apart from what was printed.
+fn main(rt: HostRuntime) -> ExitCode {
+    match run(&rt) {
+        Ok(()) => ExitCode::SUCCESS,
+        Err(_) => ExitCode::FAILURE,
+    }
 }

@@ -6,6 +6,7 @@ use anyhow::anyhow;
 use checking::sections::check;
 use std::env;
 use std::io::Read;
+use std::process::ExitCode;
 
 fn help(rt: &HostRuntime) -> anyhow::Result<()> {
     println!(rt; "usage: plancheck [map | help] < TEXT")?;
@@ -65,6 +66,10 @@ fn run(rt: &HostRuntime) -> anyhow::Result<()> {
     }
 }
 
-fn main(rt: HostRuntime) -> anyhow::Result<()> {
-    run(&rt)
+// What went wrong is said by the status alone, apart from what was printed.
+fn main(rt: HostRuntime) -> ExitCode {
+    match run(&rt) {
+        Ok(()) => ExitCode::SUCCESS,
+        Err(_) => ExitCode::FAILURE,
+    }
 }

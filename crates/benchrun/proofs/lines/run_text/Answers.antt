@@ -27,5 +27,5 @@ loop-line-preserved g c =
 pub returns : goal.returns
 returns g c =
     let v = c.args.guard.now in
-    let all = all_printed (g.P.Plan.hall v.site.plan) v c.loop-line.guard c.args.input.now (string_bytes c.loop-line.out) (left c.loop-line.lines) c.in-default.ensures.line c.if-is_long.ensures c.loop-line.invariant in
+    let all = all_printed (g.P.Plan.hall v.site.plan) v c.loop-line.guard c.args.input.now (string_bytes c.loop-line.out) (left c.loop-line.lines) c.in_default.ensures.line c.if-is_long.ensures c.loop-line.invariant in
     record { text = λ ws p st. (all ws p st).0; after = λ ws p st. (all ws p st).1 }

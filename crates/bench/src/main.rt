@@ -1,4 +1,5 @@
 //! Puts the calls on standard input to a guard over the hall of eight by eight, and prints what each gives.
+#![tactic(auto)]
 
 use anyhow::anyhow;
 use benchlines::input::LONGEST_INPUT;

@@ -1,5 +1,6 @@
 //! Seals a hall of zig-zag places, makes reports and asks questions in it, as many as the arguments say, and prints a sum of
 //! the answers: `seal PLACES SIDE`, `report N`, `ask N`, `roles N`, or `all N`. bench/run times it beside plain Rust.
+#![tactic(auto)]
 
 mod dice;
 mod hall;

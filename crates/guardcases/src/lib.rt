@@ -1,4 +1,5 @@
 //! Worked answers over the hall of eight by eight, each proved of the definitions that the contracts use.
+#![tactic(auto)]
 
 ghost use Rattle.guardcases.specs.Rows.{Rows};
 ghost use Rattle.guardcases.specs.Sessions.{Sessions};

@@ -1,4 +1,5 @@
 //! Worked sealings, each proved of the definitions that the contracts use.
+#![tactic(auto)]
 
 ghost use Rattle.sealcases.specs.Rows.{Rows};
 

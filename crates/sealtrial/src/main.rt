@@ -1,4 +1,5 @@
 //! Seals the hall of eight by eight again and again, which plancheck never does, and prints what each sealing gives.
+#![tactic(auto)]
 
 use anyhow::anyhow;
 use drawn::outline::Outline;

@@ -8,7 +8,7 @@ use site::site::Site;
 pub mod asking;
 pub mod calling;
 pub mod running;
-pub mod sealing;
+pub mod sealed;
 
 /// A plan with the policy sealed over it, and what is kept of each badge.
 #[derive(Drop)]

@@ -4,7 +4,7 @@ use policy::policy::Policy;
 use sets::Set64;
 
 pub mod questions;
-pub mod sealing;
+pub mod sealed;
 
 ghost use Rattle.std.specs.Prelude.{◌≡◌};
 ghost use Rattle.policy.specs.Policies.{says};

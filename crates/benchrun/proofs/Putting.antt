@@ -6,16 +6,16 @@ use Rattle.calls.specs.declared.call.Call.{Call}
 use Rattle.calls.specs.declared.call.Answer.{Answer}
 use Rattle.guard.specs.declared.guard.Guard.{Guard}
 use Rattle.guard.specs.Stands.{Performs, Continues}
-use Rattle.benchrun.specs.Lines.{Answers, Goes_on, PrintsOn, reply_to}
+use Rattle.benchrun.specs.Lines.{Answers, GoesOn, PrintsOn, reply_to}
 use Rattle.benchrun.specs.Printed.{text_of}
 
 module _ {P : Type 0} (h : Hall) (g g' : Guard P) (e : Call) (a : Answer) where
   pub puts : (call : Option Call) → Some e ≡ call → Performs h g g' e a → Answers h g g' call (Some a)
   puts call is so = subst (λ (o : Option Call). Answers h g g' o (Some a)) is (record { answered = ap Some so.answered; site = so.site; kept = so.kept })
 
-  pub goes_on : (call : Option Call) → Some e ≡ call → Continues h g g' e a → Goes_on h g g' call (Some a)
+  pub goes_on : (call : Option Call) → Some e ≡ call → Continues h g g' e a → GoesOn h g g' call (Some a)
   goes_on call is law =
-      subst (λ (o : Option Call). Goes_on h g g' o (Some a)) is (λ ws c calls st. let next = law ws c calls st in (ap Some next.0, next.1))
+      subst (λ (o : Option Call). GoesOn h g g' o (Some a)) is (λ ws c calls st. let next = law ws c calls st in (ap Some next.0, next.1))
 
 -- a text that was appended
 pub appended : {E : Type 0} (r : Result (Unit {0}) E) (old new text told : List ℕ) → text ≡ told → new ≡ cond (is_ok r) (old ++ text) old → IfOk r (λ _. new ≡ old ++ told)
@@ -31,5 +31,5 @@ module _ {P E : Type 0} (h : Hall) (g g' : Guard P) (call : Option Call) (a : Op
   pub prints : Answers h g g' call a → IfOk r (λ _. new ≡ old ++ text_of a) → IfOk r (λ _. new ≡ old ++ text_of (option_map (reply_to h g) call))
   prints so e = reprinted r old new a _ so.answered e
 
-  pub prints_on : Goes_on h g g' call a → IfOk r (λ _. new ≡ old ++ text_of a) → PrintsOn h g g' call r old new
+  pub prints_on : GoesOn h g g' call a → IfOk r (λ _. new ≡ old ++ text_of a) → PrintsOn h g g' call r old new
   prints_on law e ws c calls st = let next = law ws c calls st in (reprinted r old new a _ next.0 e, next.1)

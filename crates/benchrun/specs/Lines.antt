@@ -32,8 +32,8 @@ module _ {P : Type 0} (h : Hall) where
 
   -- wherever the guard stands after calls, a is the answer to the line's call after them, if it makes one, and then the
   -- guard stands after that call too
-  abbrev pub Goes_on : Guard P → Guard P → Option Call → Option Answer → Type 0
-  Goes_on g g' call a =
+  abbrev pub GoesOn : Guard P → Guard P → Option Call → Option Answer → Type 0
+  GoesOn g g' call a =
       (ws : List ℕ) (c : Content) (calls : List Call) → Stands h ws c calls g
       → (a ≡ option_map (answer (ground_of h c) calls) call) × Stands h ws c (with_call call calls) g'
 

@@ -8,7 +8,7 @@ ghost use Rattle.guard.specs.Kept.{kept_of};
 ghost use Rattle.guard.specs.Stands.{Stands};
 ghost use Rattle.benchlines.specs.Lines.{line_call};
 ghost use Rattle.benchrun.specs.Printed.{calls_of, text_of, printed};
-ghost use Rattle.benchrun.specs.Lines.{Answers, Goes_on, PrintsOn, reply_to, kept_by};
+ghost use Rattle.benchrun.specs.Lines.{Answers, GoesOn, PrintsOn, reply_to, kept_by};
 
 use benchlines::answer::answer_line;
 use benchlines::call::call_of;
@@ -21,7 +21,7 @@ use std::alloc::{AllocError, Global};
 /// Makes the call of a line; a bad line makes none and has no answer.
 fn put<P: Plan>(guard: &mut Guard<P>, line: &[u8]) -> Option<Answer>
     ensures answers { Answers (P.Plan.hall guard.old.site.plan) guard.old guard.new (line_call line.now) result }
-    ensures law { Goes_on (P.Plan.hall guard.old.site.plan) guard.old guard.new (line_call line.now) result }
+    ensures law { GoesOn (P.Plan.hall guard.old.site.plan) guard.old guard.new (line_call line.now) result }
 {
     match call_of(line) {
         Some(call) => Some(guard.perform(call)),

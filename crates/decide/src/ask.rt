@@ -1,6 +1,6 @@
 //! By which role a right is granted, and which roles are active and enabled.
 
-ghost use Rattle.std.specs.Prelude.{◌≡◌, ⊤};
+ghost use Rattle.std.specs.Prelude.{◌≡◌};
 ghost use Rattle.calls.specs.Kept.{standing_of};
 ghost use Rattle.calls.specs.declared.call.Event.TheVariants.{Roles, Ask};
 ghost use Rattle.decide.specs.Answers.{gathered as gathered_by, granted};
@@ -17,10 +17,10 @@ use plan::Plan;
 use search::{Criterion, any, gather, lowest};
 use sets::Set64;
 use site::site::Site;
-use std::alloc::AllocError;
 
-/// A right that is asked for in a session of a badge.
-struct Request<'a, P: Plan> {
+/// The criterion that a role is active in a session of a badge and has the right.
+#[derive(Drop)]
+struct Serving<'a, P: Plan> {
     site: &'a Site<P>,
     badge: &'a Badge,
     session: u16,
@@ -28,63 +28,36 @@ struct Request<'a, P: Plan> {
     object: u16,
 }
 
-impl<'a, P: Plan> Clone for Request<'a, P> {
-    ghost is_clone = { λ x y. y ≡ x };
-
-    ghost is_infallible = { λ _. ⊤ };
-
-    fn clone(&self) -> Result<Request<'a, P>, AllocError> {
-        Ok(*self)
-    }
-}
-
-impl<'a, P: Plan> Copy for Request<'a, P> {}
-
-/// The criterion that a role is active in the session and has the right.
-struct Serving<'a, P: Plan>(Request<'a, P>);
-
-impl<'a, P: Plan> Clone for Serving<'a, P> {
-    ghost is_clone = { λ x y. y ≡ x };
-
-    ghost is_infallible = { λ _. ⊤ };
-
-    fn clone(&self) -> Result<Serving<'a, P>, AllocError> {
-        Ok(*self)
-    }
-}
-
-impl<'a, P: Plan> Copy for Serving<'a, P> {}
-
 impl<'a, P: Plan> Criterion for Serving<'a, P> {
-    ghost passes = { λ s. serves (ground (P.Plan.hall s.0.site.now.plan) s.0.site.now) (standing_of s.0.badge.now) s.0.session s.0.operation s.0.object };
+    ghost passes = { λ s. serves (ground (P.Plan.hall s.site.now.plan) s.site.now) (standing_of s.badge.now) s.session s.operation s.object };
 
     fn at(&self, role: usize) -> bool {
-        self.0.badge.is_active(self.0.session, role)
-            && self.0.site.has_right(role, self.0.operation, self.0.object)
+        self.badge.is_active(self.session, role)
+            && self.site.has_right(role, self.operation, self.object)
     }
 }
 
 /// The criterion that such a role bears the misses of the badge.
 #[derive(Drop)]
-struct Bearing<'a, P: Plan>(Serving<'a, P>);
+struct Bearing<'b, 'a, P: Plan>(&'b Serving<'a, P>);
 
-impl<'a, P: Plan> Criterion for Bearing<'a, P> {
-    ghost passes = { λ s. serves_patient (ground (P.Plan.hall s.0.0.site.now.plan) s.0.0.site.now) (standing_of s.0.0.badge.now) s.0.0.session s.0.0.operation s.0.0.object };
+impl<'b, 'a, P: Plan> Criterion for Bearing<'b, 'a, P> {
+    ghost passes = { λ s. serves_patient (ground (P.Plan.hall s.0.now.site.now.plan) s.0.now.site.now) (standing_of s.0.now.badge.now) s.0.now.session s.0.now.operation s.0.now.object };
 
     fn at(&self, role: usize) -> bool {
-        self.0.at(role) && is_patient(self.0.0.site, self.0.0.badge, role)
+        self.0.at(role) && is_patient(self.0.site, self.0.badge, role)
     }
 }
 
 /// The criterion that such a role is enabled.
 #[derive(Drop)]
-struct Granting<'a, P: Plan>(Serving<'a, P>);
+struct Granting<'b, 'a, P: Plan>(&'b Serving<'a, P>);
 
-impl<'a, P: Plan> Criterion for Granting<'a, P> {
-    ghost passes = { λ s. grants (ground (P.Plan.hall s.0.0.site.now.plan) s.0.0.site.now) (standing_of s.0.0.badge.now) s.0.0.session s.0.0.operation s.0.0.object };
+impl<'b, 'a, P: Plan> Criterion for Granting<'b, 'a, P> {
+    ghost passes = { λ s. grants (ground (P.Plan.hall s.0.now.site.now.plan) s.0.now.site.now) (standing_of s.0.now.badge.now) s.0.now.session s.0.now.operation s.0.now.object };
 
     fn at(&self, role: usize) -> bool {
-        self.0.at(role) && is_enabled(self.0.0.site, self.0.0.badge, role)
+        self.0.at(role) && is_enabled(self.0.site, self.0.badge, role)
     }
 }
 
@@ -121,21 +94,21 @@ pub fn ask<'a, P: Plan>(
     if operation > 15 || object > 255 {
         return Err(Refusal::UnknownRight);
     }
-    let serving = Serving(Request {
+    let serving = Serving {
         site,
         badge,
         session,
         operation,
         object,
-    });
+    };
     let roles = site.role_count();
     if !any(&serving, roles) {
         return Err(Refusal::NoRole);
     }
-    if !any(&Bearing(serving), roles) {
+    if !any(&Bearing(&serving), roles) {
         return Err(Refusal::OutOfPatience);
     }
-    match lowest(&Granting(serving), roles) {
+    match lowest(&Granting(&serving), roles) {
         Some(role) => Ok(role),
         None => Err(Refusal::NotEnabled),
     }

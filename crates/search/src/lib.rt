@@ -1,40 +1,29 @@
-//! One text for searches: the lowest number that meets a criterion, whether there is one, and which do.
+//! One text for searches: the lowest number that passes a test, whether there is one, and which do.
 #![tactic(auto)]
 
 ghost use Rattle.std.specs.Prelude.{◌≡◌, ℕ, ◌^◌, ◌<◌, Bool, ◌&&◌, ◌||◌, is_some, ◌==◌, nat_lt};
 ghost use Rattle.sets.specs.Bounds.{some as some_of, lowest as lowest_of};
 ghost use Rattle.sets.specs.Member.{member};
 ghost use Rattle.search.specs.Gathered.{gathered};
+ghost use Rattle.search.specs.Tests.{AnswersBy};
 
 use sets::Set64;
 
-/// A criterion of numbers.
-pub trait Criterion {
-    ghost passes: { Self → ℕ → Bool };
-
-    /// Whether `k` passes.
-    fn at(&self, k: usize) -> bool
-        ensures { result ≡ passes self.now k };
-}
-
 /// The lowest number below `n` that passes.
-pub fn lowest<T: Criterion>(criterion: &T, n: usize) -> Option<usize>
-    ensures value { result ≡ lowest_of n (T.Criterion.passes criterion.now) }
-    ensures found { is_some result ≡ some_of n (T.Criterion.passes criterion.now) }
+pub fn lowest<F: Fn(usize) -> bool>(n: usize, passes: F) -> Option<usize>
+    requires { F.IsAlwaysCallable passes }
+    ensures value { (p : ℕ → Bool) → AnswersBy n (F.post passes) p → result ≡ lowest_of n p }
+    ensures found { (p : ℕ → Bool) → AnswersBy n (F.post passes) p → is_some result ≡ some_of n p }
 {
-    for k in 0..n {
-        if criterion.at(k) {
-            return Some(k);
-        }
-    }
-    None
+    (0..n).find(|k| passes(*k))
 }
 
 /// Whether some number below `n` passes.
-pub fn any<T: Criterion>(criterion: &T, n: usize) -> bool
-    ensures { result ≡ some_of n (T.Criterion.passes criterion.now) }
+pub fn any<F: Fn(usize) -> bool>(n: usize, passes: F) -> bool
+    requires { F.IsAlwaysCallable passes }
+    ensures { (p : ℕ → Bool) → AnswersBy n (F.post passes) p → result ≡ some_of n p }
 {
-    lowest(criterion, n).is_some()
+    lowest(n, passes).is_some()
 }
 
 /// The set with `k` put in if it passes.
@@ -46,13 +35,14 @@ fn noted(found: Set64, k: usize, passes: bool) -> Set64
 }
 
 /// The numbers below 64 that pass.
-pub fn gather<T: Criterion>(criterion: &T) -> Set64
-    ensures members { (k : ℕ) → member result.bits k ≡ (nat_lt k 64 && T.Criterion.passes criterion.now k) }
-    ensures value { result ≡ gathered (T.Criterion.passes criterion.now) }
+pub fn gather<F: Fn(usize) -> bool>(passes: F) -> Set64
+    requires { F.IsAlwaysCallable passes }
+    ensures members { (p : ℕ → Bool) → AnswersBy 64 (F.post passes) p → (k : ℕ) → member result.bits k ≡ (nat_lt k 64 && p k) }
+    ensures value { (p : ℕ → Bool) → AnswersBy 64 (F.post passes) p → result ≡ gathered p }
 {
     let mut found = Set64::none();
     for k in 0..64 {
-        found = noted(found, k, criterion.at(k));
+        found = noted(found, k, passes(k));
     }
     found
 }

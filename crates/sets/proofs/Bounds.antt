@@ -55,6 +55,11 @@ module _ {X : Type 0} (f : ℕ → Option X) where
   pub first_more : (i : ℕ) → first_of i f ≡ None → f i ≡ None → first_of (i + 1) f ≡ None
   first_more i e h = rw add-one (rw (e, h) refl)
 
+  -- nothing is found where nothing stands
+  pub first_nothing : (n : ℕ) → ((k : ℕ) → k < n → f k ≡ None) → first_of n f ≡ None
+  first_nothing zero h = refl
+  first_nothing (suc n) h = let below : first_of n f ≡ None = first_nothing n (λ k l. h k (omega arith)) in rw (below, h n (omega arith)) refl
+
   -- found at i, and at no number below
   pub first_here : (i n : ℕ) (x : X) → i < n → first_of i f ≡ None → f i ≡ Some x → first_of n f ≡ Some x
   first_here i zero x lt e h = absurd (omega arith)

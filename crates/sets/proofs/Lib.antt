@@ -3,3 +3,4 @@ pub mod Bits
 pub mod Words
 pub mod Bounds
 pub mod Filled
+pub mod Entries

@@ -4,6 +4,8 @@
 ghost use Rattle.std.specs.Prelude.{◌≡◌, ℕ, false, not, ◌&&◌, ◌||◌, ◌==◌, nat_lt};
 ghost use Rattle.sets.specs.Member.{member};
 
+pub mod rows;
+
 /// A set of numbers below 64: number k is in it when bit k is set.
 #[derive(Clone, Copy, Debug, Eq, PartialEq)]
 pub struct Set64 {

@@ -1,13 +1,13 @@
 -- What another session in place of one of a badge's changes of how the badge stands.
-use Rattle.std.proofs.Common.{◌≡◌, ℕ, ◌<◌, Bool, true, false, cond, not, ◌&&◌, ◌||◌, eqb, ltb, List, length, get_or, set, sym, refl, ap, ◌∙◌, subst, ⊎_elim, arith}
-use Rattle.std.proofs.lemmas.List.{get_or-set_same, get_or-set_other, get_or_past}
-use Rattle.std.proofs.lemmas.Bool.{cases_eq, eq-eqb, ne_eqb, lt-ltb, ltb-false}
-use Rattle.sets.proofs.Bits.{member_past}
+use Rattle.std.proofs.Common.{◌≡◌, ℕ, ◌<◌, ◌≤◌, Bool, true, false, cond, not, ◌&&◌, ◌||◌, eqb, ltb, List, length, get_or, set, sym, refl, ap, ◌∙◌, subst, ⊎_elim}
+use Rattle.std.proofs.lemmas.List.{get_or-set_same, get_or-set_other}
+use Rattle.std.proofs.lemmas.Bool.{cases_eq, cases_lt, eq-eqb, ne_eqb, lt-ltb}
 use Rattle.calls.specs.declared.badge.Session.{Session}
 use Rattle.calls.specs.declared.badge.Badge.{Badge}
-use Rattle.calls.specs.declared.call.Event.TheVariants.{Open, Close, Activate, Drop}
-use Rattle.calls.specs.Kept.{standing_of, track_position, track_misses, shut, holds}
-use Rattle.calls.specs.Standing.{Standing, moved, moved_within, session_count, most_roles}
+use Rattle.calls.specs.declared.call.Event.{Event}
+use Rattle.calls.specs.declared.call.Event.TheVariants.{Activate, Drop}
+use Rattle.calls.specs.Kept.{standing_of, track_position, track_misses, shut, holds, ChangedAt}
+use Rattle.calls.specs.Standing.{Standing, moved_within, session_count, most_roles}
 use Rattle.calls.proofs.Standings.{same_standing}
 
 -- the badge with another session i
@@ -30,28 +30,6 @@ stands : (k : Badge) (i : ℕ) (new : Session) (st : Standing) → i < length k.
     → standing_of (with_session k i new) ≡ st
 stands k i new st l p m o oo a aa =
     same_standing _ _ p m (each (λ t s. s.opened ≡ st.opened t) k.sessions i new l o oo) (each (λ t s. (q : ℕ) → holds s q ≡ st.active t q) k.sessions i new l a aa)
-
--- the choice at i itself
-same : {X : Type 0} (i : ℕ) (x y : X) → x ≡ cond (eqb i i) x y
-same i x y = sym (ap (λ b. cond b x y) (eq-eqb i i refl))
-
--- the choice at another number
-other : {X : Type 0} (i t : ℕ) (x y : X) → (t ≡ i → ⊥) → y ≡ cond (eqb i t) x y
-other i t x y ne = sym (ap (λ b. cond b x y) (ne_eqb i t (λ e. ne (sym e))))
-
--- a session is opened
-pub opens : (k : Badge) (i : ℕ) (new : Session) → i < length k.sessions → i < session_count → new.opened ≡ true → ((q : ℕ) → holds new q ≡ (standing_of k).active i q) → standing_of (with_session k i new) ≡ moved_within (Open i) (standing_of k)
-opens k i new l w o a =
-    stands k i new (moved (Open i) (standing_of k)) l refl refl
-    (o ∙ same i true _) (λ t ne. other i t _ _ ne) a (λ t ne q. refl)
-    ∙ sym (ap (λ b. cond b (moved (Open i) (standing_of k)) (standing_of k)) (lt-ltb i session_count w))
-
--- a session is closed
-pub closes : (k : Badge) (i : ℕ) (new : Session) → i < length k.sessions → i < session_count → new.opened ≡ false → ((q : ℕ) → holds new q ≡ false) → standing_of (with_session k i new) ≡ moved_within (Close i) (standing_of k)
-closes k i new l w o a =
-    stands k i new (moved (Close i) (standing_of k)) l refl refl
-    (o ∙ same i false _) (λ t ne. other i t _ _ ne) (λ q. a q ∙ same i false _) (λ t ne q. other i t _ _ ne)
-    ∙ sym (ap (λ b. cond b (moved (Close i) (standing_of k)) (standing_of k)) (lt-ltb i session_count w))
 
 -- the standing with role r of session i on or off
 abbrev turned : Bool → ℕ → ℕ → Standing → Standing
@@ -97,14 +75,17 @@ activates k i r new l w o a = turns true k i r new l w o (λ q. a q ∙ or_on ((
 pub releases : (k : Badge) (i r : ℕ) (new : Session) → i < length k.sessions → i < session_count → new.opened ≡ (standing_of k).opened i → ((q : ℕ) → holds new q ≡ ((standing_of k).active i q && not (ltb r most_roles && eqb q r))) → standing_of (with_session k i new) ≡ moved_within (Drop i r) (standing_of k)
 releases k i r new l w o a = turns false k i r new l w o (λ q. a q ∙ and_off ((standing_of k).active i q) (ltb r most_roles && eqb q r))
 
--- no session stands past the last
-none_past : (k : Badge) (s : ℕ) → false ≡ ltb s (length k.sessions) → shut ≡ get_or k.sessions s shut
-none_past k s e = sym (get_or_past k.sessions s shut (ltb-false _ _ (sym e)))
-
--- a session that there is not is not open
-pub none_open : (k : Badge) (s : ℕ) → false ≡ ltb s (length k.sessions) → false ≡ (standing_of k).opened s
-none_open k s e = ap (λ (p : Session). p.opened) (none_past k s e)
-
--- no role is active in a session that there is not
-pub none_active : (k : Badge) (s r : ℕ) → false ≡ ltb s (length k.sessions) → false ≡ (standing_of k).active s r
-none_active k s r e = sym (member_past 0 0 r (omega arith) (omega arith)) ∙ ap (λ (p : Session). holds p r) (none_past k s e)
+-- where a session changed by a relation, all that it allows comes to what the event comes to, and past the sessions the
+-- event changes nothing, the badge stands as after the event
+pub changed : (k k' : Badge) (i : ℕ) (e : Event) (R : Session → Session → Type 0) → k'.track ≡ k.track → ChangedAt i R k.sessions k'.sessions
+    → (i < length k.sessions → (new : Session) → R (get_or k.sessions i shut) new → standing_of (with_session k i new) ≡ moved_within e (standing_of k))
+    → (length k.sessions ≤ i → standing_of k ≡ moved_within e (standing_of k))
+    → standing_of k' ≡ moved_within e (standing_of k)
+changed k k' i e R t c there past =
+    ⊎_elim
+    (λ (l : i < length k.sessions). let new = c.there l in ap standing_of (same_badge k k' _ t new.2) ∙ there l new.0 new.1)
+    (λ (p : length k.sessions ≤ i). ap standing_of (same_badge k k' _ t (c.past p)) ∙ past p)
+    (cases_lt i (length k.sessions))
+  where
+    same_badge : (k k' : Badge) (xs : List Session) → k'.track ≡ k.track → k'.sessions ≡ xs → k' ≡ record { track = k.track; sessions = xs }
+    same_badge k k' xs t s = λ j. record { track = t j; sessions = s j }

@@ -1,21 +1,20 @@
 -- How a badge stands by what is kept of it.
-use Rattle.std.specs.Prelude.{ℕ, Bool, false, Some, None, Option, slice_index_or}
+use Rattle.std.specs.Prelude.{◌≡◌, ℕ, ◌<◌, ◌≤◌, Bool, false, List, length, set, Some, None, Option, slice_index_or}
 use Rattle.sets.specs.Member.{member}
-use Rattle.calls.specs.declared.badge.Track.{Track}
-use Rattle.calls.specs.declared.badge.Track.TheVariants.{Unheard, Heard}
+use Rattle.calls.specs.declared.badge.Heard.{Heard}
 use Rattle.calls.specs.declared.badge.Session.{Session}
 use Rattle.calls.specs.declared.badge.Badge.{Badge}
 use Rattle.calls.specs.Standing.{Standing, nothing_yet}
 
 -- the position of a track
-abbrev pub track_position : Track → Option (ℕ × ℕ)
-track_position Unheard = None
-track_position (Heard x y m) = Some (x, y)
+abbrev pub track_position : Option Heard → Option (ℕ × ℕ)
+track_position None = None
+track_position (Some t) = Some (t.x, t.y)
 
 -- the misses of a track
-abbrev pub track_misses : Track → ℕ
-track_misses Unheard = 0
-track_misses (Heard x y m) = m
+abbrev pub track_misses : Option Heard → ℕ
+track_misses None = 0
+track_misses (Some t) = t.misses
 
 -- a closed session
 abbrev pub shut : Session
@@ -31,9 +30,14 @@ standing_of k = record {
 }
 
 -- how a badge of that track stands that has no session open
-abbrev pub track_only : Track → Standing
+abbrev pub track_only : Option Heard → Standing
 track_only t = record { position = track_position t; misses = track_misses t; opened = nothing_yet.opened; active = nothing_yet.active }
 
 -- the role is active in the session
 abbrev pub holds : Session → ℕ → Bool
 holds k r = member k.active.bits r
+
+-- session i, if there is one, became another by the relation, and the others stayed
+pub record ChangedAt (i : ℕ) (R : Session → Session → Type 0) (old new : List Session) : Type 0 where
+  pub there : i < length old → (s : Session) × R (slice_index_or old i shut) s × (new ≡ set old i s)
+  pub past : length old ≤ i → new ≡ old

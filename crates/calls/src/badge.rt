@@ -1,7 +1,8 @@
 //! What is kept of one badge.
 
 ghost use Rattle.std.specs.Prelude.{◌≡◌, ℕ, true, false, not, ◌&&◌, ◌||◌, ◌==◌, nat_lt};
-ghost use Rattle.calls.specs.Kept.{standing_of, track_only, track_position, track_misses, holds};
+ghost use Rattle.std.specs.Fn.{FnOnceReturnsAtMut};
+ghost use Rattle.calls.specs.Kept.{standing_of, track_only, track_position, track_misses, holds, ChangedAt};
 ghost use Rattle.calls.specs.Standing.{moved, moved_within, nothing_yet, most_roles};
 
 use crate::call::Event;
@@ -14,37 +15,32 @@ pub const SESSIONS: u16 = 4;
 const MOST_MISSES: u8 = 4;
 
 /// Where a badge was heard last, and how often it was missed since.
-#[derive(Clone, Copy)]
-pub enum Track {
-    Unheard,
-    Heard { x: u16, y: u16, misses: u8 },
+#[derive(Clone, Copy, Debug, PartialEq, Eq)]
+pub struct Heard {
+    pub x: u16,
+    pub y: u16,
+    pub misses: u8,
 }
 
-impl Track {
-    /// The track after an event: a report begins it anew, a miss of a badge that was heard counts, up to the most.
-    fn after(self, event: Event) -> Track
-        ensures position { track_position result ≡ (moved event (track_only (self))).position }
-        ensures misses { track_misses result ≡ (moved event (track_only (self))).misses }
-    {
-        match (self, event) {
-            (_, Event::Report { x, y }) => Track::Heard { x, y, misses: 0 },
-            (Track::Unheard, Event::Miss) => Track::Unheard,
-            (Track::Heard { x, y, misses }, Event::Miss) if misses < MOST_MISSES => Track::Heard {
-                x,
-                y,
-                misses: misses + 1,
-            },
-            (Track::Heard { x, y, .. }, Event::Miss) => Track::Heard {
-                x,
-                y,
-                misses: MOST_MISSES,
-            },
-            (track, _) => track,
-        }
+/// The track after an event: a report begins it anew, a miss of a badge that was heard counts, up to the most.
+fn track_after(track: Option<Heard>, event: Event) -> Option<Heard>
+    ensures position { track_position result ≡ (moved event (track_only track)).position }
+    ensures misses { track_misses result ≡ (moved event (track_only track)).misses }
+{
+    match (track, event) {
+        (_, Event::Report { x, y }) => Some(Heard { x, y, misses: 0 }),
+        (None, Event::Miss) => None,
+        (Some(Heard { x, y, misses }), Event::Miss) => Some(Heard {
+            x,
+            y,
+            misses: misses.saturating_add(1).min(MOST_MISSES),
+        }),
+        (track, _) => track,
     }
 }
 
-/// Whether a session is open, and the roles that are active in it.
+/// Whether a session is open, and the roles that are active in it. No Option of the roles: of a session that is not open
+/// too `apply` promises that an activation stays.
 #[derive(Clone, Copy)]
 struct Session {
     opened: bool,
@@ -99,7 +95,7 @@ impl Session {
 /// One badge: its track, and its four sessions.
 #[derive(Clone, Copy)]
 pub struct Badge {
-    track: Track,
+    track: Option<Heard>,
     sessions: [Session; 4],
 }
 
@@ -110,7 +106,7 @@ impl Badge {
     {
         let shut = Session::shut();
         Badge {
-            track: Track::Unheard,
+            track: None,
             sessions: [shut; 4],
         }
     }
@@ -121,21 +117,24 @@ impl Badge {
     {
         match event {
             Event::Report { .. } | Event::Miss => {
-                self.track = self.track.after(event);
+                self.track = track_after(self.track, event);
             }
-            Event::Open { session } if session < SESSIONS => {
-                self.sessions[session as usize].open();
-            }
-            Event::Close { session } if session < SESSIONS => {
-                self.sessions[session as usize].close();
-            }
-            Event::Activate { session, role } if session < SESSIONS => {
-                self.sessions[session as usize].activate(role);
-            }
-            Event::Drop { session, role } if session < SESSIONS => {
-                self.sessions[session as usize].release(role);
-            }
+            Event::Open { session } => self.change(session, |kept| kept.open()),
+            Event::Close { session } => self.change(session, |kept| kept.close()),
+            Event::Activate { session, role } => self.change(session, |kept| kept.activate(role)),
+            Event::Drop { session, role } => self.change(session, |kept| kept.release(role)),
             _ => {}
+        }
+    }
+
+    /// Changes a session; one that there cannot be is left out. No `get_mut`: of a slice's no clause says what a write leaves.
+    fn change<F: FnOnce(&mut Session)>(&mut self, session: u16, change: F)
+        requires { F.IsAlwaysCallable change }
+        ensures track { self.new.track ≡ self.old.track }
+        ensures sessions { ChangedAt session (λ old new. FnOnceReturnsAtMut F.FnOnce change old tt new) self.old.sessions self.new.sessions }
+    {
+        if session < SESSIONS {
+            change(&mut self.sessions[session as usize]);
         }
     }
 
@@ -143,24 +142,22 @@ impl Badge {
     pub fn is_open(&self, session: u16) -> bool
         ensures { result ≡ (standing_of self.now).opened session }
     {
-        match self.sessions.get(session as usize) {
-            Some(kept) => kept.opened,
-            None => false,
-        }
+        self.sessions
+            .get(session as usize)
+            .is_some_and(|kept| kept.opened)
     }
 
     /// Whether a role is active in a session.
     pub fn is_active(&self, session: u16, role: usize) -> bool
         ensures { result ≡ (standing_of self.now).active session role }
     {
-        match self.sessions.get(session as usize) {
-            Some(kept) => kept.active.has(role),
-            None => false,
-        }
+        self.sessions
+            .get(session as usize)
+            .is_some_and(|kept| kept.active.has(role))
     }
 
-    /// Where the badge was heard last, and how often it was missed since.
-    pub fn track(&self) -> Track
+    /// Where the badge was heard last, and how often it was missed since; none where it never was.
+    pub fn track(&self) -> Option<Heard>
         ensures { result ≡ self.now.track }
     {
         self.track

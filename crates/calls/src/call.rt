@@ -4,7 +4,7 @@ use crate::refusal::Refusal;
 use sets::Set64;
 
 /// What a call tells or asks of its badge.
-#[derive(Clone, Copy)]
+#[derive(Clone, Copy, Debug, PartialEq, Eq)]
 pub enum Event {
     /// The badge was heard at a point.
     Report {
@@ -48,15 +48,15 @@ pub enum Event {
 }
 
 /// A badge, and what is told or asked of it.
-#[derive(Clone, Copy)]
+#[derive(Clone, Copy, Debug, PartialEq, Eq)]
 pub struct Call {
     pub badge: u16,
     pub event: Event,
 }
 
-/// What is answered to a call.
-#[derive(Clone, Copy)]
-pub enum Answer {
+/// What is answered to a call that is not refused.
+#[derive(Clone, Copy, Debug, PartialEq, Eq)]
+pub enum Reply {
     /// The call is accepted.
     Done,
     /// The place where the badge is, if there is one.
@@ -67,6 +67,7 @@ pub enum Answer {
     RoleSet(Set64),
     /// The role that grants the right.
     Granted(usize),
-    /// The call is refused.
-    Refused(Refusal),
 }
+
+/// What is answered to a call.
+pub type Answer = Result<Reply, Refusal>;

@@ -4,34 +4,34 @@ ghost use Rattle.std.specs.Prelude.{◌≡◌};
 ghost use Rattle.calls.specs.Numbers.{number as number_of};
 
 /// The reasons by their numbers; each call tries its own in an order of its own.
-#[derive(Clone, Copy)]
+#[derive(Clone, Copy, Debug, PartialEq, Eq)]
 pub enum Refusal {
     /// The badge number is not below the number of badges.
-    UnknownBadge,
+    UnknownBadge = 1,
     /// The session number is above 3.
-    UnknownSession,
+    UnknownSession = 2,
     /// The session is not open.
-    NotOpen,
+    NotOpen = 3,
     /// The session is open already.
-    AlreadyOpen,
+    AlreadyOpen = 4,
     /// The role number is not in use.
-    UnknownRole,
+    UnknownRole = 5,
     /// The badge is not entitled to the role.
-    NotEntitled,
+    NotEntitled = 6,
     /// The role is active in the session already.
-    AlreadyActive,
+    AlreadyActive = 7,
     /// The role is not active in the session.
-    NotActive,
+    NotActive = 8,
     /// The position is off the floor.
-    OffFloor,
+    OffFloor = 9,
     /// The operation is above 15, or the object above 255.
-    UnknownRight,
+    UnknownRight = 10,
     /// No active role has the right.
-    NoRole,
+    NoRole = 11,
     /// The badge was never heard, or its misses exceed the patience of every active role that has the right.
-    OutOfPatience,
+    OutOfPatience = 12,
     /// Some such role has patience enough, and none is enabled.
-    NotEnabled,
+    NotEnabled = 13,
 }
 
 impl Refusal {
@@ -39,20 +39,6 @@ impl Refusal {
     pub fn number(self) -> u8
         ensures { result ≡ number_of (self) }
     {
-        match self {
-            Refusal::UnknownBadge => 1,
-            Refusal::UnknownSession => 2,
-            Refusal::NotOpen => 3,
-            Refusal::AlreadyOpen => 4,
-            Refusal::UnknownRole => 5,
-            Refusal::NotEntitled => 6,
-            Refusal::AlreadyActive => 7,
-            Refusal::NotActive => 8,
-            Refusal::OffFloor => 9,
-            Refusal::UnknownRight => 10,
-            Refusal::NoRole => 11,
-            Refusal::OutOfPatience => 12,
-            Refusal::NotEnabled => 13,
-        }
+        self as u8
     }
 }

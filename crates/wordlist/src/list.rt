@@ -100,21 +100,9 @@ fn take_record<L: WordList>(list: &mut L, record: Record<'_>) -> Result<(), Reco
     requires { index_of (shown «record») + length (words_of (shown «record»)) < 2 ^ 64 }
     ensures { (L.state list.new, result) ≡ run L.rules (L.state list.old) (index_of (shown «record».entry)) (words_of (shown «record».entry)) }
 {
-    match record {
-        Record::Plain { index, head } => take_word(list, index, *head),
-        Record::Drawn {
-            index,
-            head,
-            corners,
-        } => {
-            take_word(list, index, *head)?;
-            take_words(list, index + 1, corners)
-        }
-        Record::Cells { index, head, rows } => {
-            take_word(list, index, *head)?;
-            take_words(list, index + 1, rows)
-        }
-    }
+    let (index, head, body) = record.parts();
+    take_word(list, index, *head)?;
+    take_words(list, index + 1, body)
 }
 
 /// Reads a list to its end, or to the first word that breaks a rule.

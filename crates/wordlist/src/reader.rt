@@ -1,10 +1,11 @@
 //! A list of words, handed out one record at a time.
 
-ghost use Rattle.std.specs.Prelude.{◌≡◌, ℕ, ◌+◌, ◌^◌, ◌<◌, ◌≤◌, length, take, drop};
-ghost use Rattle.wordlist.specs.Cutting.{body_of, cut_at, cut_of, left_of, shown};
+ghost use Rattle.std.specs.Prelude.{◌≡◌, ℕ, ◌+◌, ◌^◌, ◌<◌, ◌≤◌, ◌∷◌, length, take, drop};
+ghost use Rattle.wordlist.specs.Cutting.{body_of, cut_at, cut_of, index_of, left_of, shown, words_of};
 ghost use Rattle.std.specs.Option.{option_map};
 
-use super::fields::{bits, kind};
+use super::fields::bits;
+use super::kinds::Kind;
 
 /// A record as a part of the list: its head, the words that belong to it, and where the head stands.
 #[derive(Clone, Copy)]
@@ -25,6 +26,28 @@ pub enum Record<'a> {
     },
 }
 
+impl<'a> Record<'a> {
+    /// Where the head stands, the head, and the words that belong to it.
+    pub(crate) fn parts(self) -> (usize, &'a u32, &'a [u32])
+        ensures index { result.0 ≡ index_of (shown self.entry) }
+        ensures words { result.1.now ∷ result.2.now ≡ words_of (shown self.entry) }
+    {
+        match self {
+            Record::Plain { index, head } => (index, head, &[]),
+            Record::Drawn {
+                index,
+                head,
+                corners: body,
+            }
+            | Record::Cells {
+                index,
+                head,
+                rows: body,
+            } => (index, head, body),
+        }
+    }
+}
+
 /// The words that are left, and where the first of them stands in the list.
 #[derive(Drop)]
 pub struct Reader<'a> {
@@ -37,9 +60,9 @@ pub struct Reader<'a> {
 pub fn body_of(head: u32) -> usize
     ensures { result ≡ body_of head }
 {
-    match kind(head) {
-        2 => bits(head, 4, 5) as usize,
-        4 => 16,
+    match Kind::of(head) {
+        Some(Kind::Ring) => bits(head, 4, 5) as usize,
+        Some(Kind::Cells) => 16,
         _ => 0,
     }
 }
@@ -57,13 +80,13 @@ fn parted<'a>(words: &'a [u32], n: usize) -> (&'a [u32], &'a [u32])
 fn record_of<'a>(index: usize, head: &'a u32, body: &'a [u32]) -> Record<'a>
     ensures { shown result ≡ cut_at index head.now body.now }
 {
-    match kind(*head) {
-        2 => Record::Drawn {
+    match Kind::of(*head) {
+        Some(Kind::Ring) => Record::Drawn {
             index,
             head,
             corners: body,
         },
-        4 => Record::Cells {
+        Some(Kind::Cells) => Record::Cells {
             index,
             head,
             rows: body,

@@ -1,11 +1,14 @@
 //! Why a list of words is refused.
 
-ghost use Rattle.std.specs.Prelude.{◌≡◌};
-ghost use Rattle.wordlist.specs.Faults.{told as told_of};
+ghost use Rattle.std.specs.Prelude.{◌≡◌, Some};
+ghost use Rattle.wordlist.specs.Faults.{said, told as told_of};
 ghost use Rattle.wordlist.specs.declared.faults.RecordFault.TheVariants.{Word as InRecord};
 
+use std::error::Error;
+use std::fmt;
+
 /// A fault of the words themselves.
-#[derive(Clone, Copy)]
+#[derive(Clone, Copy, Debug, PartialEq, Eq)]
 pub enum WordFault {
     /// The list ends before its front word or inside a place.
     Short { length: usize },
@@ -14,7 +17,7 @@ pub enum WordFault {
 }
 
 /// A fault of a record, or of a word under it.
-#[derive(Clone, Copy)]
+#[derive(Clone, Copy, Debug, PartialEq, Eq)]
 pub enum RecordFault {
     Word(WordFault),
     /// A word that may not stand there, or a key that does not rise.
@@ -34,7 +37,7 @@ impl From<WordFault> for RecordFault {
 }
 
 /// What a fault says of itself: its number, its layer and up to three figures, the rest zero.
-#[derive(Clone, Copy)]
+#[derive(Clone, Copy, Debug, PartialEq, Eq)]
 pub struct Told {
     pub number: u8,
     pub layer: u8,
@@ -46,32 +49,36 @@ impl RecordFault {
     pub fn told(&self) -> Told
         ensures { result ≡ told_of self.now }
     {
-        match *self {
-            RecordFault::Word(WordFault::Short { length }) => Told {
-                number: 20,
-                layer: 1,
-                figures: [length, 0, 0],
-            },
-            RecordFault::Word(WordFault::Foreign { index }) => Told {
-                number: 21,
-                layer: 1,
-                figures: [index, 0, 0],
-            },
-            RecordFault::OutOfTurn { index } => Told {
-                number: 22,
-                layer: 2,
-                figures: [index, 0, 0],
-            },
-            RecordFault::Full { index } => Told {
-                number: 23,
-                layer: 2,
-                figures: [index, 0, 0],
-            },
-            RecordFault::BadField { index } => Told {
-                number: 24,
-                layer: 2,
-                figures: [index, 0, 0],
-            },
+        let (number, layer, figures) = match *self {
+            RecordFault::Word(WordFault::Short { length }) => (20, 1, [length, 0, 0]),
+            RecordFault::Word(WordFault::Foreign { index }) => (21, 1, [index, 0, 0]),
+            RecordFault::OutOfTurn { index } => (22, 2, [index, 0, 0]),
+            RecordFault::Full { index } => (23, 2, [index, 0, 0]),
+            RecordFault::BadField { index } => (24, 2, [index, 0, 0]),
+        };
+        Told {
+            number,
+            layer,
+            figures,
         }
     }
 }
+
+/// The fault in words.
+impl fmt::Display for RecordFault {
+    ghost output = { λ f. Some (said f) };
+
+    fn fmt<W: fmt::Write>(&self, f: &mut fmt::Formatter<W>) -> fmt::Result {
+        f.write_str(match self {
+            RecordFault::Word(WordFault::Short { .. }) =>
+                "the list ends before its front word or inside a place",
+            RecordFault::Word(WordFault::Foreign { .. }) => "this list has no words of that kind",
+            RecordFault::OutOfTurn { .. } =>
+                "the word may not stand there, or its key does not rise",
+            RecordFault::Full { .. } => "there are as many such records as there may be already",
+            RecordFault::BadField { .. } => "a field is bad",
+        })
+    }
+}
+
+impl Error for RecordFault {}

@@ -6,12 +6,12 @@ mod dice;
 mod hall;
 mod rounds;
 
-use anyhow::anyhow;
+use anyhow::{Context, anyhow};
 use drawn::outline::Outline;
 use guard::guard::Guard;
 use hall::{hall_words, policy_words};
 use listed::listed::Listed;
-use rounds::{ask_all, enabled_all, report_all, roles_all, sign_in};
+use rounds::{ask, enabled_all, report, roles, sign_in, sum_of};
 use std::env;
 
 /// The guard of a hall with so many places on a floor of so many points a side, its policy sealed.
@@ -43,9 +43,9 @@ fn play(rt: &HostRuntime, kind: &str, count: u32) -> anyhow::Result<()> {
     let mut guard = sealed(rt, 64, 256)?;
     let signed = sign_in(&mut guard);
     let sum = match kind {
-        "report" => report_all(&mut guard, count),
-        "ask" => ask_all(&mut guard, count),
-        "roles" => roles_all(&mut guard, count),
+        "report" => sum_of(&mut guard, count, report),
+        "ask" => sum_of(&mut guard, count, ask),
+        "roles" => sum_of(&mut guard, count, roles),
         _ => return Err(anyhow!("no such kind of round")),
     };
     println!(rt; "{kind} {count} active {signed} sum {sum}")?;
@@ -62,10 +62,8 @@ fn all(rt: &HostRuntime, count: u32) -> anyhow::Result<()> {
 
 /// The number that an argument says.
 fn number(argument: Option<String>) -> anyhow::Result<u32> {
-    match argument {
-        Some(text) => Ok(text.as_str().parse::<u32>()?),
-        None => Err(anyhow!("a number is missing")),
-    }
+    let text = argument.context("a number is missing")?;
+    Ok(text.as_str().parse::<u32>()?)
 }
 
 fn run(rt: &HostRuntime) -> anyhow::Result<()> {

@@ -5,69 +5,51 @@ use calls::refusal::Refusal;
 use guard::guard::Guard;
 use plan::Plan;
 
-/// What an answer counts in a sum.
-fn told(res: Result<(), Refusal>) -> u64 {
-    match res {
-        Ok(()) => 0,
-        Err(refusal) => u64::from(refusal.number()),
-    }
-}
-
-/// What a granting role counts in a sum.
-fn granted(res: Result<usize, Refusal>) -> u64 {
-    match res {
-        Ok(role) => 100u64.wrapping_add(role as u64),
+/// What an answer counts in a sum: a refusal its number.
+fn counted<T, F: FnOnce(T) -> u64>(answer: Result<T, Refusal>, worth: F) -> u64
+    requires { F.IsAlwaysCallable worth }
+{
+    match answer {
+        Ok(value) => worth(value),
         Err(refusal) => u64::from(refusal.number()),
     }
 }
 
 /// Opens a session of a badge and activates in it each role that the badge is entitled to; how many these are.
 fn open<P: Plan>(guard: &mut Guard<P>, badge: u16, session: u16) -> u64 {
-    let mut active = 0u64;
     let _ = guard.open(badge, session);
-    for role in 0..64u16 {
-        if guard.activate(badge, session, role).is_ok() {
-            active = active.wrapping_add(1);
-        }
-    }
-    active
+    (0..64u16)
+        .filter(|role| guard.activate(badge, session, *role).is_ok())
+        .count() as u64
 }
 
 /// Opens a session of each badge; how many roles are active then.
 pub fn sign_in<P: Plan>(guard: &mut Guard<P>) -> u64 {
-    let mut active = 0u64;
-    for badge in 0..128u16 {
-        active = active.wrapping_add(open(guard, badge, badge % 4));
-    }
-    active
+    (0..128u16).fold(0u64, |active, badge| {
+        active.wrapping_add(open(guard, badge, badge % 4))
+    })
 }
 
 /// A sum of which roles are enabled at a point, and which a badge may take.
 fn enabled_at<P: Plan>(guard: &mut Guard<P>, x: u16, y: u16) -> u64 {
-    let mut sum = told(guard.report(0, x, y));
-    for role in 0..64u16 {
-        let answer = match guard.enabled(0, role) {
-            Ok(true) => 1u64,
-            _ => 0u64,
-        };
-        sum = mixed(sum, answer);
-    }
-    sum
+    let heard = counted(guard.report(0, x, y), |()| 0);
+    (0..64u16).fold(heard, |sum, role| {
+        mixed(sum, u64::from(guard.enabled(0, role).unwrap_or(false)))
+    })
 }
 
 /// A sum of what was sealed, seen at eight points.
 pub fn enabled_all<P: Plan>(guard: &mut Guard<P>, side: u32) -> u64 {
     let quarter = side / 4;
-    let mut sum = open(guard, 0, 0);
-    for k in 0..8u32 {
+    let active = open(guard, 0, 0);
+    (0..8u32).fold(active, |sum, k| {
         let x = quarter.wrapping_mul(1 + 2 * (k % 2)) % 256;
         let y = quarter
             .wrapping_mul(1 + 2 * (k / 2 % 2))
             .wrapping_add((k / 4).wrapping_mul(quarter / 3))
             % 256;
-        sum = mixed(sum, enabled_at(guard, x as u16, y as u16));
-    }
-    sum
+        mixed(sum, enabled_at(guard, x as u16, y as u16))
+    })
 }
 
 /// A point of the middle half of one of two quarters.
@@ -87,43 +69,43 @@ fn hear<P: Plan>(guard: &mut Guard<P>, dice: &mut Dice) -> u16 {
     badge
 }
 
-/// So many reports, a few of them of a badge that there is not.
-pub fn report_all<P: Plan>(guard: &mut Guard<P>, count: u32) -> u64 {
-    let mut dice = Dice::new();
-    let mut sum = 0u64;
-    for _ in 0..count {
-        let badge = dice.byte() % 130;
-        let x = dice.byte();
-        let y = dice.byte();
-        sum = mixed(sum, told(guard.report(badge, x, y)));
-    }
-    sum
+/// One report, now and then of a badge that there is not.
+pub fn report<P: Plan>(guard: &mut Guard<P>, dice: &mut Dice) -> u64 {
+    let badge = dice.byte() % 130;
+    let x = dice.byte();
+    let y = dice.byte();
+    counted(guard.report(badge, x, y), |()| 0)
 }
 
-/// So many times a badge is heard and asks for a right.
-pub fn ask_all<P: Plan>(guard: &mut Guard<P>, count: u32) -> u64 {
-    let mut dice = Dice::new();
-    let mut sum = 0u64;
-    for _ in 0..count {
-        let badge = hear(guard, &mut dice);
-        let operation = dice.byte() % 16;
-        let object = dice.byte() % 32;
-        sum = mixed(sum, granted(guard.ask(badge, badge % 4, operation, object)));
-    }
-    sum
+/// A badge is heard and asks for a right.
+pub fn ask<P: Plan>(guard: &mut Guard<P>, dice: &mut Dice) -> u64 {
+    let badge = hear(guard, dice);
+    let operation = dice.byte() % 16;
+    let object = dice.byte() % 32;
+    counted(
+        guard.ask(badge, badge % 4, operation, object),
+        |role| 100u64.wrapping_add(role as u64),
+    )
 }
 
-/// So many times a badge is heard and its roles are asked for.
-pub fn roles_all<P: Plan>(guard: &mut Guard<P>, count: u32) -> u64 {
+/// A badge is heard and its roles are asked for.
+pub fn roles<P: Plan>(guard: &mut Guard<P>, dice: &mut Dice) -> u64 {
+    let badge = hear(guard, dice);
+    counted(guard.roles(badge, badge % 4), |roles| roles.word())
+}
+
+/// A sum of so many rounds of a kind.
+pub fn sum_of<P: Plan, F: FnMut(&mut Guard<P>, &mut Dice) -> u64>(
+    guard: &mut Guard<P>,
+    count: u32,
+    mut round: F,
+) -> u64
+    requires { F.IsAlwaysCallable round }
+{
     let mut dice = Dice::new();
     let mut sum = 0u64;
     for _ in 0..count {
-        let badge = hear(guard, &mut dice);
-        let answer = match guard.roles(badge, badge % 4) {
-            Ok(roles) => roles.word(),
-            Err(refusal) => u64::from(refusal.number()),
-        };
-        sum = mixed(sum, answer);
+        sum = mixed(sum, round(guard, &mut dice));
     }
     sum
 }

@@ -9,14 +9,14 @@ use Rattle.ring.proofs.covered.Goals as goal
 pub returns-in_default : goal.returns-in_default
 returns-in_default c = covers_none c.args.corners.now c.args.x c.args.y (omega (arith, ltb-true, leb-true))
 
-pub returns-then-on_edge : goal.returns-then-on_edge
-returns-then-on_edge c =
-    let on = on_here c.loop-to.from c.args.corners.now c.loop-to.to-index c.args.x c.args.y c.loop-to-test.true (sym c.if-on_edge.ensures) in
+pub returns-then-contains : goal.returns-then-contains
+returns-then-contains c =
+    let on = on_here c.loop-to.from c.args.corners.now c.loop-to.to-index c.args.x c.args.y c.loop-to-test.true (sym c.if-contains.ensures) in
     covers_on c.args.corners.now (last_of c.args.corners.now) c.args.x c.args.y refl (sym c.loop-to.invariant.0 ∙ on)
 
 pub loop-to-preserved : goal.loop-to-preserved
 loop-to-preserved c =
-    let on = on_skip c.loop-to.from c.args.corners.now c.loop-to.to-index c.args.x c.args.y c.loop-to-test.true (sym c.if-on_edge.ensures) in (
+    let on = on_skip c.loop-to.from c.args.corners.now c.loop-to.to-index c.args.x c.args.y c.loop-to-test.true (sym c.if-contains.ensures) in (
       sym on ∙ c.loop-to.invariant.0,
       elim c.if-crossed.branch [
         | then-crossed w ↦

@@ -1,28 +1,29 @@
 -- What a survey keeps of any numbers, and that it is what a hall says.
-use Rattle.std.specs.Prelude.{◌≡◌, ℕ, Bool, false, cond, not, ◌&&◌, ◌||◌, map, length, Some, None, Option, ◌==◌, nat_lt, slice_index_or}
+use Rattle.std.specs.Prelude.{◌≡◌, ℕ, Bool, false, not, ◌&&◌, ◌||◌, map, length, Some, None, Option, ◌==◌}
 use Rattle.std.specs.List.{range_with_len}
 use Rattle.sets.specs.Bounds.{every, some}
+use Rattle.sets.specs.Member.{member}
 use Rattle.plan.specs.Hall.{Hall, most_places, type_at}
 use Rattle.plan.specs.Lying.{has_point, lies_in, shares as meets}
 use Rattle.survey.specs.declared.Survey.{Survey}
-use Rattle.survey.specs.Entries.{cell, set_of}
+use Rattle.survey.specs.declared.Seen.{Seen}
+use Rattle.survey.specs.Entries.{entry, set_of}
+
+-- what a survey of a hall keeps of number i
+abbrev pub seen_of : Hall → ℕ → Seen
+seen_of h i = record { ty = type_at h i; lies = set_of (lies_in h i); shares = set_of (meets h i) }
 
 -- what a survey of a hall keeps: an entry for each number below 64
 abbrev pub survey_of : Hall → Survey
-survey_of h = record {
-  count = length h.places;
-  types = map (type_at h) (range_with_len 0 most_places);
-  lies = map (λ i. set_of (lies_in h i)) (range_with_len 0 most_places);
-  shares = map (λ i. set_of (meets h i)) (range_with_len 0 most_places);
-}
+survey_of h = record { count = length h.places; places = map (seen_of h) (range_with_len 0 most_places) }
 
 -- the type of place i; a number past the entries has none
 abbrev pub kept_type : Survey → ℕ → Option ℕ
-kept_type s i = cond (nat_lt i most_places) (slice_index_or s.types i None) None
+kept_type s i = (entry s.places i).ty
 
 -- places i and j share a point
 abbrev pub kept_shares : Survey → ℕ → ℕ → Bool
-kept_shares s i j = cell s.shares i j
+kept_shares s i j = member (entry s.places i).shares.bits j
 
 -- place i covers some point: it shares one with itself
 abbrev pub kept_point : Survey → ℕ → Bool
@@ -30,7 +31,7 @@ kept_point s i = kept_shares s i i
 
 -- place i lies in place j; one without a point lies in every place
 abbrev pub kept_lies : Survey → ℕ → ℕ → Bool
-kept_lies s i j = not (kept_point s i) || cell s.lies i j
+kept_lies s i j = not (kept_point s i) || member (entry s.places i).lies.bits j
 
 -- there is a type, and it is t
 abbrev pub is_type : ℕ → Option ℕ → Bool

@@ -1,21 +1,11 @@
 //! What a survey answers, of any numbers: one that is not in use has no type and no point, so it lies in every place and shares a point with none.
 
-ghost use Rattle.std.specs.Prelude.{◌≡◌, ℕ, length};
-ghost use Rattle.sets.specs.Member.{member};
+ghost use Rattle.std.specs.Prelude.{◌≡◌, length};
 ghost use Rattle.plan.specs.Hall.{Hall, type_at};
 ghost use Rattle.plan.specs.Lying.{has_point, lies_in, shares as meets, lies_in_some, type_lies};
-ghost use Rattle.survey.specs.Entries.{cell};
-ghost use Rattle.survey.specs.Kept.{Tied, kept_type, kept_of, kept_point, kept_lies, kept_shares, kept_holds, kept_lies_in_some, kept_fits, kept_type_lies};
+ghost use Rattle.survey.specs.Kept.{Tied, is_type, kept_type, kept_of, kept_point, kept_lies, kept_shares, kept_holds, kept_lies_in_some, kept_fits, kept_type_lies};
 
 use super::Survey;
-use sets::Set64;
-
-/// Entry `i`, and the set of nothing past the last.
-fn entry(rows: &[Set64; 64], i: usize) -> Set64
-    ensures { (j : ℕ) → member result.bits j ≡ cell rows.now i j }
-{
-    if i < 64 { rows[i] } else { Set64::none() }
-}
 
 impl Survey {
     /// How many places there are.
@@ -31,7 +21,7 @@ impl Survey {
         ensures kept { result ≡ kept_type self.now place }
         ensures meant { (h : Hall) → Tied h self.now → result ≡ type_at h place }
     {
-        if place < 64 { self.types[place] } else { None }
+        self.places.get(place).and_then(|seen| seen.ty)
     }
 
     /// Whether two places share a point.
@@ -39,7 +29,7 @@ impl Survey {
         ensures kept { result ≡ kept_shares self.now a b }
         ensures meant { (h : Hall) → Tied h self.now → result ≡ meets h a b }
     {
-        entry(&self.shares, a).has(b)
+        self.places.get(a).is_some_and(|seen| seen.shares.has(b))
     }
 
     /// Whether a place covers any point.
@@ -55,17 +45,15 @@ impl Survey {
         ensures kept { result ≡ kept_lies self.now a b }
         ensures meant { (h : Hall) → Tied h self.now → result ≡ lies_in h a b }
     {
-        !self.has_point(a) || entry(&self.lies, a).has(b)
+        !self.has_point(a) || self.places.get(a).is_some_and(|seen| seen.lies.has(b))
     }
 
     /// Whether the number is in use and the place of that type.
-    fn is_of(&self, place: usize, ty: u8) -> bool
-        ensures { result ≡ kept_of self.now ty place }
+    pub fn is_of(&self, place: usize, ty: u8) -> bool
+        ensures kept { result ≡ kept_of self.now ty place }
+        ensures meant { (h : Hall) → Tied h self.now → result ≡ is_type ty (type_at h place) }
     {
-        match self.type_of(place) {
-            Some(own) => own == ty,
-            None => false,
-        }
+        self.type_of(place) == Some(ty)
     }
 
     /// Whether `other` is of that type and `place` lies in it.
@@ -80,12 +68,7 @@ impl Survey {
         ensures kept { result ≡ kept_lies_in_some self.now ty place }
         ensures meant { (h : Hall) → Tied h self.now → result ≡ lies_in_some h ty place }
     {
-        for other in 0..self.count {
-            if self.holds(ty, place, other) {
-                return true;
-            }
-        }
-        false
+        (0..self.count).any(|other| self.holds(ty, place, other))
     }
 
     /// Whether `place`, if it is of type `s`, lies in some place of type `t`.
@@ -100,11 +83,6 @@ impl Survey {
         ensures kept { result ≡ kept_type_lies self.now s t }
         ensures meant { (h : Hall) → Tied h self.now → result ≡ type_lies h s t }
     {
-        for place in 0..self.count {
-            if !self.fits(s, t, place) {
-                return false;
-            }
-        }
-        true
+        (0..self.count).all(|place| self.fits(s, t, place))
     }
 }

@@ -7,13 +7,19 @@ pub mod answers;
 pub mod laws;
 pub mod make;
 
-/// What is kept of a plan: the number of places, their types, and in entry i what is known of place i and each other.
+/// What is kept of one number: its type, if it is in use, and what is known of it and each place.
+#[derive(Clone, Copy)]
+struct Seen {
+    ty: Option<u8>,
+    /// Number j is in it when the place lies in place j.
+    lies: Set64,
+    /// Number j is in it when the place and place j share a point.
+    shares: Set64,
+}
+
+/// What is kept of a plan: how many places there are, and of place i entry i.
 #[derive(Clone, Copy)]
 pub struct Survey {
     count: usize,
-    types: [Option<u8>; 64],
-    /// Number j is in entry i when place i lies in place j.
-    lies: [Set64; 64],
-    /// Number j is in entry i when places i and j share a point.
-    shares: [Set64; 64],
+    places: [Seen; 64],
 }

@@ -1,53 +1,44 @@
 //! The pass over the floor that makes a survey.
 
-ghost use Rattle.std.specs.Prelude.{◌≡◌, ℕ, ◌^◌, ◌<◌, ◌≤◌, None as Nothing, slice_index_or};
-ghost use Rattle.sets.specs.Member.{member};
-ghost use Rattle.plan.specs.Hall.{most_places, type_at};
-ghost use Rattle.survey.specs.Entries.{Changed, Whole, still_lies, now_shares};
+ghost use Rattle.std.specs.Prelude.{◌≡◌, length};
+ghost use Rattle.survey.specs.Entries.{Changed, Noted, Unseen};
 ghost use Rattle.survey.specs.Kept.{Tied, survey_of};
 
-use super::Survey;
+use super::{Seen, Survey};
 use plan::Plan;
 use sets::Set64;
+use std::array;
 
-/// In which places `i` still lies, once a point is seen that the places of `at` cover.
-fn narrowed(old: Set64, at: Set64, i: usize) -> Set64
-    ensures members { (j : ℕ) → member result.bits j ≡ still_lies at.bits i j (member old.bits j) }
-    ensures fits { result.bits < 2 ^ 64 }
-{
-    if at.has(i) { at.and(old) } else { old }
-}
+impl Seen {
+    /// What is known of a number of the type before any point is seen: it lies in every place, and shares a point with none.
+    fn before(ty: Option<u8>) -> Seen
+        ensures { Unseen ty result }
+    {
+        Seen {
+            ty,
+            lies: Set64::all(),
+            shares: Set64::none(),
+        }
+    }
 
-/// With which places `i` now shares a point, once a point is seen that the places of `at` cover.
-fn widened(old: Set64, at: Set64, i: usize) -> Set64
-    ensures members { (j : ℕ) → member result.bits j ≡ now_shares at.bits i j (member old.bits j) }
-    ensures fits { result.bits < 2 ^ 64 }
-{
-    if at.has(i) { at.or(old) } else { old }
-}
-
-/// Notes in the entries below `count` a point that the places of `at` cover.
-fn note(lies: &mut [Set64; 64], shares: &mut [Set64; 64], count: usize, at: Set64)
-    requires { count ≤ most_places }
-    ensures within { Changed (still_lies at.bits) count lies.old lies.new }
-    ensures common { Changed (now_shares at.bits) count shares.old shares.new }
-    ensures whole { (Whole lies.old → Whole lies.new) × (Whole shares.old → Whole shares.new) }
-{
-    for i in 0..count {
-        lies[i] = narrowed(lies[i], at, i);
-        shares[i] = widened(shares[i], at, i);
+    /// Notes of place `i` a point that the places of `at` cover.
+    fn note(&mut self, i: usize, at: Set64)
+        ensures { Noted at.bits i self.old self.new }
+    {
+        if at.has(i) {
+            self.lies = at.and(self.lies);
+            self.shares = at.or(self.shares);
+        }
     }
 }
 
-/// The type of each place, none at a number that is not in use.
-fn types_of<P: Plan>(plan: &P) -> [Option<u8>; 64]
-    ensures { (k : ℕ) → k < most_places → slice_index_or result k Nothing ≡ type_at (P.hall plan.now) k }
+/// Notes of each place a point that the places of `at` cover.
+fn note(places: &mut [Seen], at: Set64)
+    ensures { Changed at.bits (length places.old) places.old places.new }
 {
-    let mut types = [None; 64];
-    for place in 0..64 {
-        types[place] = plan.type_of(place);
+    for (i, seen) in places.iter_mut().enumerate() {
+        seen.note(i, at);
     }
-    types
 }
 
 impl Survey {
@@ -57,20 +48,12 @@ impl Survey {
         ensures tied { Tied (P.hall plan.now) result }
     {
         let count = plan.count();
-        let types = types_of(plan);
-        let mut lies = [Set64::all(); 64];
-        let mut shares = [Set64::none(); 64];
+        let mut places = array::from_fn(|place| Seen::before(plan.type_of(place)));
         for y in 0..plan.height() {
             for x in 0..plan.width() {
-                let at = plan.places_at(x, y);
-                note(&mut lies, &mut shares, count, at);
+                note(&mut places[..count], plan.places_at(x, y));
             }
         }
-        Survey {
-            count,
-            types,
-            lies,
-            shares,
-        }
+        Survey { count, places }
     }
 }

@@ -1,12 +1,11 @@
 -- `of`: what the pass keeps true.
-use Rattle.survey.specs.Entries.{Whole}
-use Rattle.survey.proofs.Pass.{LiesSeen, SharesSeen, LiesSeenTo, SharesSeenTo}
+use Rattle.survey.proofs.Pass.{SeenTo}
 use Rattle.survey.proofs.Survey.of.Given as goal
 
 -- the rows below y are seen
 abbrev pub invariant-loop-y : goal.invariant-loop-y
-invariant-loop-y g l = let h = g.P.Plan.hall l.plan in Whole l.lies × Whole l.shares × LiesSeen h l.lies l.y × SharesSeen h l.shares l.y
+invariant-loop-y g l = SeenTo (g.P.Plan.hall l.plan) l.places 0 l.y
 
 -- and of row y the points below x
 abbrev pub invariant-loop-x : goal.invariant-loop-x
-invariant-loop-x g l = let h = g.P.Plan.hall l.plan in Whole l.lies × Whole l.shares × LiesSeenTo h l.lies l.x l.y × SharesSeenTo h l.shares l.x l.y
+invariant-loop-x g l = SeenTo (g.P.Plan.hall l.plan) l.places l.x l.y

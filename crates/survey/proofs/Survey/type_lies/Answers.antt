@@ -1,23 +1,16 @@
--- `type_lies`: the first place that does not fit ends the search.
-use Rattle.std.proofs.Common.{◌≡◌, ℕ, true, false, sym, ap, ◌∙◌, arith}
-use Rattle.sets.specs.Bounds.{every}
-use Rattle.sets.proofs.Bounds.{every_more, every_not}
-use Rattle.survey.specs.Kept.{kept_fits, kept_type_lies}
+-- `type_lies`: whether each place fits.
+use Rattle.std.proofs.Common.{◌≡◌, true, false, ◌∙◌, refl, rules, arith}
+use Rattle.std.proofs.lemmas.Iterator.{cases_from_all, YieldsList-from_range}
+use Rattle.survey.specs.Kept.{kept_fits}
+use Rattle.survey.proofs.Ranges.{every_from_all}
 use Rattle.survey.proofs.Ties.{type_lies_tied}
 use Rattle.survey.proofs.Survey.type_lies.Goals as goal
 
-pub loop-place-preserved : goal.loop-place-preserved
-loop-place-preserved c = every_more (kept_fits c.args.self.now c.args.s c.args.t) c.loop-place.place c.loop-place.invariant (sym c.if-not-fits.ensures)
+pub returns-clause-kept : goal.returns-clause-kept
+returns-clause-kept c =
+    let p = kept_fits c.args.self.now c.args.s c.args.t in
+    every_from_all p c.args.self.now.count c.all.result
+    (cases_from_all _ _ c.all.result (λ k. p k ≡ true) (λ k. p k ≡ false) c.all.ensures.ran (YieldsList-from_range 0 _ c.args.self.now.count refl (omega arith)) (λ x q k. search rules) (λ x q k. search rules))
 
-pub returns-then-not-fits : goal.returns-then-not-fits
-returns-then-not-fits c =
-    let survey = c.args.self.now in
-    let e : false ≡ kept_type_lies survey c.args.s c.args.t = sym (every_not (kept_fits survey c.args.s c.args.t) c.loop-place.place survey.count (omega arith) (sym c.if-not-fits.ensures)) in
-    record { kept = e; meant = λ h tied. e ∙ type_lies_tied h survey tied c.args.s c.args.t }
-
-pub returns : goal.returns
-returns c =
-    let survey = c.args.self.now in
-    let all : c.loop-place.place ≡ survey.count = omega arith in
-    let e : true ≡ kept_type_lies survey c.args.s c.args.t = sym c.loop-place.invariant ∙ ap (λ (n : ℕ). every n (kept_fits survey c.args.s c.args.t)) all in
-    record { kept = e; meant = λ h tied. e ∙ type_lies_tied h survey tied c.args.s c.args.t }
+pub returns-clause-meant : goal.returns-clause-meant
+returns-clause-meant c h tied = returns-clause-kept c ∙ type_lies_tied h c.args.self.now tied c.args.s c.args.t

@@ -1,7 +1,7 @@
 -- `new`: nothing is sealed, and nothing is kept.
 use Rattle.std.proofs.Common.{length, sym, refl, ◌∙◌}
 use Rattle.plan.specs.Lying.{lies_in}
-use Rattle.survey.proofs.Cells.{cell_none}
+use Rattle.sets.proofs.Entries.{cell_none}
 use Rattle.site.proofs.Blanks.{holds_nothing, nothing_above}
 use Rattle.site.proofs.Grounds.{same_ground}
 use Rattle.site.proofs.site.Site.new.Goals as goal

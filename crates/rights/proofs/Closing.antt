@@ -12,7 +12,7 @@ use Rattle.records.specs.Keys.{parent_key}
 use Rattle.policy.specs.Contents.{Content, parent_at}
 use Rattle.policy.specs.Facts.{Upward}
 use Rattle.rights.specs.Reach.{by_step, reaches}
-use Rattle.rights.specs.Rows.{cell}
+use Rattle.sets.specs.Rows.{cell}
 use Rattle.rights.proofs.Reaching.{reaches_step}
 
 child_below : (p q : Parent) → pair_less (parent_key p) (parent_key q) ≡ true → p.child ≤ q.child

@@ -1,6 +1,6 @@
 -- The lemmas of this crate.
+pub mod Calls
 pub mod Counts
-pub mod Entries
 pub mod Reaching
 pub mod Closing
 pub mod Aboves

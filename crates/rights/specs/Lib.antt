@@ -1,5 +1,5 @@
 -- The definitions that the contracts cite.
-pub mod Rows
+pub mod Tests
 pub mod Reach
 pub mod Ancestors
 pub mod Extents

@@ -1,40 +1,47 @@
 //! The ancestors of each role, from the closure of parents and the lying of places in one another.
 
-ghost use Rattle.std.specs.Prelude.{◌≡◌, ℕ};
-ghost use Rattle.sets.specs.Member.{member};
+ghost use Rattle.std.specs.Prelude.{◌≡◌, ℕ, Bool};
 ghost use Rattle.policy.specs.Policies.{says};
 ghost use Rattle.rights.specs.Ancestors.{ancestor_by};
-ghost use Rattle.rights.specs.Rows.{cell};
+ghost use Rattle.sets.specs.Rows.{cell};
+ghost use Rattle.rights.specs.Tests.{RelatesBy};
 
-use crate::table::is_in;
+use crate::table::table;
 use policy::policy::Policy;
 use sets::Set64;
+use sets::rows::is_in;
 
 /// Whether role `a` is an ancestor of role `r`.
-fn is_above(policy: &Policy, reach: &[Set64; 32], lies: &[Set64; 64], r: usize, a: usize) -> bool
-    ensures { result ≡ ancestor_by (cell reach.now) (cell lies.now) (says policy.now) r a }
+fn is_above<L: Fn(u8, u8) -> bool>(
+    policy: &Policy,
+    reach: &[Set64; 32],
+    lies: &L,
+    r: usize,
+    a: usize,
+) -> bool
+    requires { L.IsAlwaysCallable lies.now }
+    ensures { (f : ℕ → ℕ → Bool) → RelatesBy 256 (L.post lies.now) f → result ≡ ancestor_by (cell reach.now) f (says policy.now) r a }
 {
     if r < policy.role_count() && a < policy.role_count() {
         let low = policy.role(r);
         let high = policy.role(a);
-        is_in(reach, low.schema as usize, high.schema as usize)
-            && is_in(lies, low.extent as usize, high.extent as usize)
+        is_in(reach, low.schema as usize, high.schema as usize) && lies(low.extent, high.extent)
     } else {
         false
     }
 }
 
-/// The ancestors of role `r`.
-fn above(policy: &Policy, reach: &[Set64; 32], lies: &[Set64; 64], r: usize) -> Set64
-    ensures { (a : ℕ) → member result.bits a ≡ ancestor_by (cell reach.now) (cell lies.now) (says policy.now) r a }
+/// Number `a` is in entry `r` when role `a` is an ancestor of role `r`, where `reach` tells which schema reaches which
+/// and `lies` whether the first place lies in the second.
+pub(crate) fn ancestors_by<L: Fn(u8, u8) -> bool>(
+    policy: &Policy,
+    reach: &[Set64; 32],
+    lies: L,
+) -> [Set64; 64]
+    requires { L.IsAlwaysCallable lies }
+    ensures { (f : ℕ → ℕ → Bool) → RelatesBy 256 (L.post lies) f → (r a : ℕ) → cell result r a ≡ ancestor_by (cell reach.now) f (says policy.now) r a }
 {
-    let mut found = Set64::none();
-    for a in 0..policy.role_count() {
-        if is_above(policy, reach, lies, r, a) {
-            found = found.with(a);
-        }
-    }
-    found
+    table(|r, a| is_above(policy, reach, &lies, r, a))
 }
 
 /// Number `a` is in entry `r` when role `a` is an ancestor of role `r`, where `reach` tells which schema reaches which
@@ -42,9 +49,7 @@ fn above(policy: &Policy, reach: &[Set64; 32], lies: &[Set64; 64], r: usize) -> 
 pub fn ancestors(policy: &Policy, reach: &[Set64; 32], lies: &[Set64; 64]) -> [Set64; 64]
     ensures { (r a : ℕ) → cell result r a ≡ ancestor_by (cell reach.now) (cell lies.now) (says policy.now) r a }
 {
-    let mut rows = [Set64::none(); 64];
-    for r in 0..64 {
-        rows[r] = above(policy, reach, lies, r);
-    }
-    rows
+    ancestors_by(policy, reach, |low, high| {
+        is_in(lies, low as usize, high as usize)
+    })
 }

@@ -3,8 +3,6 @@
 ghost use Rattle.rights.specs.Worked.{Worked};
 
 /// What follows from the small policy is as the table says.
-pub fn worked_stands() -> u8
+pub fn worked_stands()
     ensures { Worked }
-{
-    0
-}
+{}

@@ -4,9 +4,9 @@ use Rattle.std.proofs.lemmas.Bool.{and_left}
 use Rattle.sets.specs.declared.Set64.{Set64}
 use Rattle.sets.proofs.Bounds.{some_none}
 use Rattle.policy.specs.Contents.{Content}
-use Rattle.rights.specs.Rows.{cell}
+use Rattle.sets.specs.Rows.{cell}
 use Rattle.rights.specs.Rights.{carries, has_right, lends}
-use Rattle.rights.proofs.Entries.{cell_past}
+use Rattle.sets.proofs.Entries.{cell_past}
 
 -- nothing is above a number past the last entry, so it has no right
 pub no_right : (rows : List Set64) (c : Content) (r operation object : ℕ) → length rows ≤ r → has_right (cell rows) c r operation object ≡ false

@@ -1,7 +1,7 @@
 -- What a site keeps, as what calls and questions ask of it.
 use Rattle.plan.specs.Hall.{Hall, on_floor as is_on_floor}
 use Rattle.policy.specs.Policies.{says}
-use Rattle.rights.specs.Rows.{cell}
+use Rattle.sets.specs.Rows.{cell}
 use Rattle.sealing.specs.Ground.{Ground, place_at}
 use Rattle.site.specs.declared.site.Site.{Site}
 

@@ -1,7 +1,8 @@
 -- `extents`: the table of what was surveyed gives the places that lie in an extent.
-use Rattle.std.proofs.Common.{◌≡◌, ℕ, ◌<◌, ◌≤◌, Bool, ◌&&◌, ltb, length, sym, ap, ◌∙◌, ⊎_elim, arith}
+use Rattle.std.proofs.Common.{◌≡◌, ℕ, ◌<◌, ◌≤◌, Bool, ◌&&◌, ltb, length, sym, ap, ◌∙◌, ⊎_elim, arith, rules}
 use Rattle.std.proofs.lemmas.Bool.{cases_lt, and_left, and_right, lt-ltb, le-ltb}
 use Rattle.plan.specs.Lying.{lies_in}
+use Rattle.survey.specs.Kept.{kept_lies}
 use Rattle.policy.specs.Contents.{Content, role_at}
 use Rattle.policy.specs.Policies.{says}
 use Rattle.rights.specs.Extents.{extent_holds}
@@ -22,8 +23,9 @@ inside_64 n lies c few most r p =
     (cases_lt r 64)
 
 pub returns : goal.returns
-returns c = λ h most tied r p.
+returns c h most tied r p =
     let content = says c.args.policy.now in
-    c.table.ensures r p
-    ∙ (λ i. ltb r 64 && (ltb p 64 && ((ltb r (length content.roles) && ltb p (tied.count i)) && tied.lies p (role_at content r).extent i)))
+    let survey = c.args.survey.now in
+    c.table.ensures (extent_holds survey.count (kept_lies survey) content) (λ i j b il jl e. search rules) r p
+    ∙ (λ t. ltb r 64 && (ltb p 64 && ((ltb r (length content.roles) && ltb p (tied.count t)) && tied.lies p (role_at content r).extent t)))
     ∙ inside_64 (length h.places) (lies_in h) content (roles_few c.args.policy.now) most r p

@@ -7,10 +7,12 @@ ghost use Rattle.cells.specs.Rows;
 ghost use Rattle.std.proofs.Common.{rules, arith};
 
 use super::cellset::CellSet;
-use listed::body::{Body, Parted};
+use arrayvec::ArrayVec;
 use listed::floor::Floor;
+use listed::parts::parts;
 use listed::shape::Shape;
 use wordlist::fields::bits;
+use wordlist::kinds::Kind;
 
 /// Whether bit `column` of a row is set.
 fn has_column(row: u16, column: u16) -> bool
@@ -19,14 +21,11 @@ fn has_column(row: u16, column: u16) -> bool
     column < 16 && (row >> column) & 1 == 1
 }
 
-impl Parted for CellSet {
-    type Part = u16;
-
-    ghost said = { row_of };
-
-    fn part(word: u32) -> u16 {
-        bits(word, 0, 16) as u16
-    }
+/// The row that a word says.
+fn row(word: u32) -> u16
+    ensures { result ≡ row_of word }
+{
+    bits(word, 0, 16) as u16
 }
 
 impl Shape for CellSet {
@@ -40,12 +39,12 @@ impl Shape for CellSet {
 
     ghost exact = { Rows.exact };
 
-    fn head_kind() -> u32 {
-        4
+    fn head_kind() -> Kind {
+        Kind::Cells
     }
 
-    fn body_kind() -> u32 {
-        5
+    fn body_kind() -> Kind {
+        Kind::Row
     }
 
     fn sound_head(word: u32) -> bool {
@@ -56,11 +55,10 @@ impl Shape for CellSet {
         bits(word, 16, 12) == 0
     }
 
-    fn build(_floor: Floor, head: u32, body: &Body) -> CellSet {
+    fn build(_floor: Floor, head: u32, body: &ArrayVec<u32, 16>) -> CellSet {
         CellSet {
             ty: bits(head, 0, 4) as u8,
-            count: body.len(),
-            rows: body.parts::<CellSet>(),
+            rows: parts(body, row),
         }
     }
 
@@ -69,10 +67,9 @@ impl Shape for CellSet {
     }
 
     fn covers(&self, x: u16, y: u16) -> bool {
-        let row = (y / 16) as usize;
-        if row >= self.count {
-            return false;
-        }
-        has_column(self.rows[row], x / 16)
+        self.rows
+            .as_slice()
+            .get((y / 16) as usize)
+            .is_some_and(|row| has_column(*row, x / 16))
     }
 }

@@ -1,14 +1,11 @@
 //! A place that is drawn as a closed ring of corners.
 
-ghost use Rattle.std.specs.Prelude.{◌≤◌};
-
+use arrayvec::ArrayVec;
 use ring::corner::Corner;
 
 /// A type, and the corners of a closed ring, sixteen at most.
-#[derive(Clone, Copy)]
+#[derive(Drop)]
 pub struct Outline {
     pub(crate) ty: u8,
-    pub(crate) count: usize,
-    pub(crate) corners: [Corner; 16],
-    ghost within: { count ≤ 16 },
+    pub(crate) corners: ArrayVec<Corner, 16>,
 }

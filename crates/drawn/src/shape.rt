@@ -1,27 +1,27 @@
 //! How a drawn place is read from its words, and what it covers.
 
+ghost use Rattle.std.specs.Prelude.{◌≡◌};
 ghost use Rattle.drawn.specs.Drawings.{Drawing, corner_of, drawing_of, drawn_make};
 ghost use Rattle.drawn.specs.Corners;
 ghost use Rattle.std.proofs.Common.{rules, arith};
 
 use super::outline::Outline;
-use listed::body::{Body, Parted};
+use arrayvec::ArrayVec;
 use listed::floor::Floor;
+use listed::parts::parts;
 use listed::shape::Shape;
 use ring::corner::Corner;
 use ring::covered;
 use wordlist::fields::bits;
+use wordlist::kinds::Kind;
 
-impl Parted for Outline {
-    type Part = Corner;
-
-    ghost said = { corner_of };
-
-    fn part(word: u32) -> Corner {
-        Corner {
-            x: bits(word, 0, 8) as u16,
-            y: bits(word, 8, 8) as u16,
-        }
+/// The corner that a word says.
+fn corner(word: u32) -> Corner
+    ensures { result ≡ corner_of word }
+{
+    Corner {
+        x: bits(word, 0, 8) as u16,
+        y: bits(word, 8, 8) as u16,
     }
 }
 
@@ -36,17 +36,16 @@ impl Shape for Outline {
 
     ghost exact = { Corners.exact };
 
-    fn head_kind() -> u32 {
-        2
+    fn head_kind() -> Kind {
+        Kind::Ring
     }
 
-    fn body_kind() -> u32 {
-        3
+    fn body_kind() -> Kind {
+        Kind::Corner
     }
 
     fn sound_head(word: u32) -> bool {
-        let count = bits(word, 4, 5);
-        3 <= count && count <= 16 && bits(word, 9, 19) == 0
+        (3..=16).contains(&bits(word, 4, 5)) && bits(word, 9, 19) == 0
     }
 
     fn sound_body(floor: Floor, word: u32) -> bool {
@@ -55,11 +54,10 @@ impl Shape for Outline {
             && bits(word, 16, 12) == 0
     }
 
-    fn build(_floor: Floor, head: u32, body: &Body) -> Outline {
+    fn build(_floor: Floor, head: u32, body: &ArrayVec<u32, 16>) -> Outline {
         Outline {
             ty: bits(head, 0, 4) as u8,
-            count: body.len(),
-            corners: body.parts::<Outline>(),
+            corners: parts(body, corner),
         }
     }
 
@@ -68,6 +66,6 @@ impl Shape for Outline {
     }
 
     fn covers(&self, x: u16, y: u16) -> bool {
-        covered(&self.corners[..self.count], x, y)
+        covered(self.corners.as_slice(), x, y)
     }
 }

@@ -1,4 +1,3 @@
-pub mod Padded
 pub mod Blanks
 pub mod Heads
 pub mod Exactly

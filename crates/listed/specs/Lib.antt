@@ -1,5 +1,3 @@
-pub mod Padding
-pub mod Bodies
 pub mod Makes
 pub mod Waiting
 pub mod Layouts

@@ -10,7 +10,6 @@ use Rattle.listed.specs.declared.floor.Floor.{Floor}
 use Rattle.listed.specs.declared.draft.Next.{Next}
 use Rattle.listed.specs.declared.draft.Next.TheVariants as next
 use Rattle.listed.specs.declared.draft.Draft.{Draft}
-use Rattle.listed.specs.Bodies.{words_in}
 use Rattle.listed.specs.Layouts.{Layout, blank, hall_of, layout_of}
 use Rattle.listed.specs.Makes.{Make}
 
@@ -94,7 +93,7 @@ module _ {P : Type 0} (m : Make P) where
 abbrev pub turn_of : Next → Turn
 turn_of next.Front = front
 turn_of next.Head = head
-turn_of (next.Body h b n) = body h (words_in b) n
+turn_of (next.Body h b n) = body h b.items n
 
 abbrev pub progress_of : {S P : Type 0} → (S → P) → Draft S → Progress P
 progress_of model d = record { layout = layout_of model d.sheet; turn = turn_of d.next }

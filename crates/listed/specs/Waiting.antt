@@ -1,5 +1,6 @@
 -- The place that waits for words fits into the list of places, and its words into its body.
 use Rattle.std.specs.Prelude.{ℕ, ◌+◌}
+use Rattle.arrayvec.specs.ArrayVec.{array_vec_len}
 use Rattle.listed.specs.declared.draft.Next.{Next}
 use Rattle.listed.specs.declared.draft.Next.TheVariants.{Front, Head, Body}
 
@@ -13,7 +14,7 @@ waiting (Body h b owed) = 1
 abbrev pub due : Next → ℕ
 due Front = 0
 due Head = 0
-due (Body h b owed) = b.count + owed
+due (Body h b owed) = array_vec_len b + owed
 
 -- how many words at least are owed, where a place waits
 abbrev pub least : Next → ℕ

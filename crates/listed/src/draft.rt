@@ -1,23 +1,27 @@
 //! What was read of a list so far.
 
-use super::body::Body;
 use super::sheet::Sheet;
+use arrayvec::ArrayVec;
 
 pub mod reading;
 
-ghost use Rattle.std.specs.Prelude.{◌+◌, ◌≤◌, vec_len};
+ghost use Rattle.std.specs.Prelude.{◌+◌, ◌≤◌, length};
 ghost use Rattle.plan.specs.Hall.{most_places};
 ghost use Rattle.listed.specs.Waiting.{due, least, waiting};
 
 /// What may stand next in the list.
-#[derive(Clone, Copy)]
+#[derive(Drop)]
 pub enum Next {
     /// The floor word.
     Front,
     /// A place's head, or the end.
     Head,
-    /// One of the words that a place still owes.
-    Body { head: u32, body: Body, owed: usize },
+    /// One of the words that a place still owes; those that were read are in its body.
+    Body {
+        head: u32,
+        body: ArrayVec<u32, 16>,
+        owed: usize,
+    },
 }
 
 /// The floor and the places read so far, and the place that is being read.
@@ -25,7 +29,7 @@ pub enum Next {
 pub struct Draft<S> {
     sheet: Sheet<S>,
     next: Next,
-    ghost few: { vec_len sheet.places + waiting next ≤ most_places },
+    ghost few: { length sheet.places.records.items + waiting next ≤ most_places },
     ghost short: { due next ≤ 16 },
     ghost owing: { 1 ≤ least next },
 }

@@ -4,10 +4,11 @@ ghost use Rattle.std.specs.Prelude.{◌≡◌, ℕ, ◌≤◌, true};
 ghost use Rattle.plan.specs.Hall.{Place};
 ghost use Rattle.wordlist.specs.Cutting.{body_of};
 ghost use Rattle.listed.specs.Makes.{Make, Exact};
-ghost use Rattle.listed.specs.Bodies.{words_in};
+ghost use Rattle.wordlist.specs.Kinds.{number_of};
 
-use super::body::Body;
 use super::floor::Floor;
+use arrayvec::ArrayVec;
+use wordlist::kinds::Kind;
 
 /// A place that is read from a head and the words after it.
 pub trait Shape {
@@ -21,12 +22,12 @@ pub trait Shape {
     ghost model: { Self → Model };
 
     /// The kind of a place's head.
-    fn head_kind() -> u32
-        ensures { result ≡ make.head };
+    fn head_kind() -> Kind
+        ensures { number_of result ≡ make.head };
 
     /// The kind of the words after it.
-    fn body_kind() -> u32
-        ensures { result ≡ make.body };
+    fn body_kind() -> Kind
+        ensures { number_of result ≡ make.body };
 
     /// Whether a head's fields are good.
     fn sound_head(word: u32) -> bool
@@ -37,8 +38,8 @@ pub trait Shape {
         ensures { result ≡ make.sound_body floor word };
 
     /// The place of a head and the words after it.
-    fn build(floor: Floor, head: u32, body: &Body) -> Self
-        ensures { model result ≡ make.place_of floor head (words_in body.now) };
+    fn build(floor: Floor, head: u32, body: &ArrayVec<u32, 16>) -> Self
+        ensures { model result ≡ make.place_of floor head body.now.items };
 
     /// The type of the place.
     fn type_of(&self) -> u8

@@ -1,20 +1,23 @@
 //! How a list is read into a draft.
 
-ghost use Rattle.std.specs.Prelude.{◌≡◌, ℕ, ◌+◌, ◌<◌, ◌≤◌, IfOk, vec_len};
+ghost use Rattle.std.specs.Prelude.{◌≡◌, ℕ, ◌+◌, ◌<◌, ◌≤◌, IfOk, length};
+ghost use Rattle.arrayvec.specs.ArrayVec.{array_vec_len};
 ghost use Rattle.plan.specs.Hall.{most_places};
+ghost use Rattle.wordlist.specs.Given.{given_from};
 ghost use Rattle.wordlist.specs.Reading.{passing};
-ghost use Rattle.listed.specs.Bodies.{words_in};
-ghost use Rattle.listed.specs.Layouts.{layout_of};
-ghost use Rattle.listed.specs.Reading.{Progress, floor_of, grown, list_rules, progress_of, sound_floor as sound_floor_spec, start};
+ghost use Rattle.listed.specs.Layouts.{Layout, layout_of};
+ghost use Rattle.listed.specs.Reading.{Progress, floor_of, grown, layout_from, list_rules, progress_of, sound_floor as sound_floor_spec, start};
 
-use super::super::body::Body;
 use super::super::floor::Floor;
 use super::super::shape::Shape;
 use super::super::sheet::Sheet;
 use super::{Draft, Next};
+use arrayvec::ArrayVec;
 use std::alloc::{AllocError, Global};
-use std::mem::swap;
+use std::mem::{replace, swap};
 use wordlist::fields::{bits, kind};
+use wordlist::keeping::Drafted;
+use wordlist::kinds::Kind;
 use wordlist::list::WordList;
 use wordlist::reader::body_of;
 
@@ -22,9 +25,9 @@ use wordlist::reader::body_of;
 fn sound_floor(word: u32) -> bool
     ensures { result ≡ sound_floor_spec word }
 {
-    let width = bits(word, 0, 9);
-    let height = bits(word, 9, 9);
-    1 <= width && width <= 256 && 1 <= height && height <= 256 && bits(word, 18, 10) == 0
+    (1..=256).contains(&bits(word, 0, 9))
+        && (1..=256).contains(&bits(word, 9, 9))
+        && bits(word, 18, 10) == 0
 }
 
 impl<S: Shape + Drop> Draft<S> {
@@ -39,23 +42,6 @@ impl<S: Shape + Drop> Draft<S> {
         })
     }
 
-    /// Starts anew.
-    pub(crate) fn clear(&mut self)
-        ensures { progress_of S.Shape.model self.new ≡ start }
-    {
-        self.next = Next::Front;
-        self.sheet.clear();
-    }
-
-    /// Gives its sheet for another, to start anew on that.
-    pub(crate) fn exchange(&mut self, sheet: &mut Sheet<S>)
-        ensures given { sheet.new ≡ self.old.sheet }
-        ensures taken { self.new.sheet ≡ sheet.old }
-    {
-        self.next = Next::Front;
-        swap(&mut self.sheet, sheet);
-    }
-
     /// Whether a word breaks no rule of turn, room and fields.
     fn passes(&self, word: u32) -> bool
         ensures { result ≡ passing (list_rules S.Shape.make) (progress_of S.Shape.model self.now) word }
@@ -64,14 +50,14 @@ impl<S: Shape + Drop> Draft<S> {
     }
 
     /// A place with so many words owed: without any it is whole, and put with the others.
-    fn grow(&mut self, head: u32, body: Body, owed: usize)
-        requires room { vec_len self.old.sheet.places < most_places }
-        requires short { body.count + owed ≤ 16 }
-        ensures { progress_of S.Shape.model self.new ≡ grown S.Shape.make (layout_of S.Shape.model self.old.sheet) head (words_in body) owed }
+    fn grow(&mut self, head: u32, body: ArrayVec<u32, 16>, owed: usize)
+        requires room { length self.old.sheet.places.records.items < most_places }
+        requires short { array_vec_len body + owed ≤ 16 }
+        ensures { progress_of S.Shape.model self.new ≡ grown S.Shape.make (layout_of S.Shape.model self.old.sheet) head body.items owed }
     {
         if owed == 0 {
             let place = S::build(self.sheet.floor, head, &body);
-            self.sheet.places.push_reserved(place);
+            self.sheet.places.put(place);
             self.next = Next::Head;
         } else {
             self.next = Next::Body { head, body, owed };
@@ -87,21 +73,23 @@ impl<S: Shape + Drop> WordList for Draft<S> {
     ghost state = { progress_of S.Shape.model };
 
     fn belongs(&self, kind: u32) -> bool {
-        kind == 1 || kind == S::head_kind() || kind == S::body_kind()
+        kind == Kind::Floor.number()
+            || kind == S::head_kind().number()
+            || kind == S::body_kind().number()
     }
 
     fn in_turn(&self, word: u32) -> bool {
         let due = match self.next {
-            Next::Front => 1,
+            Next::Front => Kind::Floor,
             Next::Head => S::head_kind(),
             Next::Body { .. } => S::body_kind(),
         };
-        kind(word) == due
+        kind(word) == due.number()
     }
 
     fn has_room(&self, _word: u32) -> bool {
         match self.next {
-            Next::Head => self.sheet.places.len() < 64,
+            Next::Head => self.sheet.places.has_room(),
             _ => true,
         }
     }
@@ -118,23 +106,56 @@ impl<S: Shape + Drop> WordList for Draft<S> {
         if !self.passes(word) {
             return;
         }
-        match self.next {
+        match replace(&mut self.next, Next::Head) {
             Next::Front => {
                 self.sheet.floor = Floor {
                     width: bits(word, 0, 9) as u16,
                     height: bits(word, 9, 9) as u16,
                 };
-                self.next = Next::Head;
             }
-            Next::Head => self.grow(word, Body::new(), body_of(word)),
-            Next::Body { head, body, owed } => self.grow(head, body.with(word), owed - 1),
+            Next::Head => self.grow(word, ArrayVec::new(), body_of(word)),
+            Next::Body {
+                head,
+                mut body,
+                owed,
+            } => {
+                body.push(word);
+                self.grow(head, body, owed - 1);
+            }
         }
     }
 
     fn owes(&self) -> bool {
-        match self.next {
-            Next::Head => false,
-            _ => true,
-        }
+        !matches!(self.next, Next::Head)
+    }
+}
+
+impl<S: Shape + Drop> Drafted for Draft<S> {
+    type Ground = ();
+
+    type Kept = Sheet<S>;
+
+    ghost Content = { Layout S.Shape.Model };
+
+    ghost content = { λ d. layout_of S.Shape.model d.sheet };
+
+    ghost said = { layout_of S.Shape.model };
+
+    ghost bears = { λ _. Unit {0} };
+
+    ghost begun = { λ _ d. progress_of S.Shape.model d ≡ start };
+
+    ghost outcome = { λ _ ws. layout_from S.Shape.make ws };
+
+    ghost reads = { λ _ d e a ws. given_from (progress_of S.Shape.model) (λ s. s.layout) (list_rules S.Shape.make) start d e a ws };
+
+    fn begin(&mut self, _ground: ()) {
+        self.next = Next::Front;
+        self.sheet.clear();
+    }
+
+    fn exchange(&mut self, sheet: &mut Sheet<S>) {
+        self.next = Next::Front;
+        swap(&mut self.sheet, sheet);
     }
 }

@@ -28,19 +28,21 @@ impl<S: Shape + Drop> Plan for Listed<S> {
     }
 
     fn type_of(&self, place: usize) -> Option<u8> {
-        match self.sheet.places.get(place) {
-            Some(found) => Some(found.type_of()),
-            None => None,
-        }
+        self.sheet
+            .places
+            .records()
+            .get(place)
+            .map(|found| found.type_of())
     }
 
     fn covers(&self, place: usize, x: u16, y: u16) -> bool {
         if x >= self.sheet.floor.width || y >= self.sheet.floor.height {
             return false;
         }
-        match self.sheet.places.get(place) {
-            Some(found) => found.covers(x, y),
-            None => false,
-        }
+        self.sheet
+            .places
+            .records()
+            .get(place)
+            .is_some_and(|found| found.covers(x, y))
     }
 }

@@ -12,7 +12,7 @@ use super::super::sheet::Sheet;
 use super::Listed;
 use std::alloc::{AllocError, Global};
 use wordlist::faults::RecordFault;
-use wordlist::list::read;
+use wordlist::keeping::keep;
 
 impl<S: Shape + Drop> Listed<S> {
     /// A floor of one point with no place. All the memory that the plan will use is taken here.
@@ -31,13 +31,7 @@ impl<S: Shape + Drop> Listed<S> {
         ensures draft { progress_of S.Shape.model self.new.draft ≡ start }
         ensures exactly { result ≡ Ok tt → spelled S.Shape.make (layout_of S.Shape.model self.new.sheet) ≡ words.now }
     {
-        self.draft.clear();
-        let answer = read(&mut self.draft, words);
-        if answer.is_ok() {
-            self.draft.exchange(&mut self.sheet);
-        }
-        self.draft.clear();
-        answer
+        keep(&mut self.draft, (), &mut self.sheet, words)
     }
 
     /// A new plan of what the words say, and the answer to them. The plan of refused words is a floor of one point with no place.

@@ -5,19 +5,23 @@ ghost use Rattle.listed.specs.Layouts.{Bare};
 
 use super::super::floor::Floor;
 use super::Sheet;
+use keyed::shelf::Shelf;
 use std::alloc::{AllocError, Global};
+
+/// A floor of one point.
+const POINT: Floor = Floor {
+    width: 1,
+    height: 1,
+};
 
 impl<S: Drop> Sheet<S> {
     /// A floor of one point with no place.
     pub(crate) fn new(heap: Global) -> Result<Sheet<S>, AllocError>
         ensures { IfOk result Bare }
     {
-        let places = Vec::with_capacity(heap, 64)?;
+        let places = Shelf::new(heap)?;
         Ok(Sheet {
-            floor: Floor {
-                width: 1,
-                height: 1,
-            },
+            floor: POINT,
             places,
         })
     }
@@ -26,10 +30,7 @@ impl<S: Drop> Sheet<S> {
     pub(crate) fn clear(&mut self)
         ensures { Bare self.new }
     {
-        self.floor = Floor {
-            width: 1,
-            height: 1,
-        };
+        self.floor = POINT;
         self.places.clear();
     }
 }

@@ -1,9 +1,9 @@
-use Rattle.std.proofs.Common.{arith}
-use Rattle.cells.specs.Rows.{no_row, at_row}
+use Rattle.std.proofs.Common.{ap, ◌∙◌, rules}
+use Rattle.cells.specs.CellSets.{in_cells}
+use Rattle.cells.proofs.Asked.{asked}
 use Rattle.cells.proofs.shape.CellSetShape.covers.Goals as goal
 
-pub returns-then-row-self : goal.returns-then-row-self
-returns-then-row-self c = no_row c.args.self.now.rows c.args.self.now.count c.args.x c.args.y (omega arith)
-
 pub returns : goal.returns
-returns c = at_row c.args.self.now.rows c.args.self.now.count c.args.x c.args.y c.has_column.result (omega arith) c.has_column.ensures
+returns c =
+    asked c.as_slice.result.now c.args.x c.args.y _ c.get.result c.is_some_and.result c.get.ensures.lookup c.is_some_and.ensures (λ p e. search rules)
+    ∙ ap (λ rs. in_cells rs c.args.x c.args.y) c.as_slice.ensures.value

@@ -162,7 +162,7 @@ pub fn check(rt: &HostRuntime, text: &[u8], map: bool) -> anyhow::Result<bool>
     let mut page = Page::with_room(rt.alloc(), text.len())?;
     if let Err(fault) = page.read(text) {
         let line = fault.line;
-        let reason = fault.reason.text();
+        let reason = fault.reason;
         println!(rt; "text fault line {line}")?;
         println!(rt; "  {reason}")?;
         return Ok(false);

@@ -1,6 +1,5 @@
 -- The definitions that the contracts cite.
 pub mod Parts
-pub mod Shown
 pub mod Digits
 pub mod Reasons
 pub mod Reading

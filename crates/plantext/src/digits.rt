@@ -19,6 +19,7 @@ fn digit(byte: u8) -> Option<u32>
 }
 
 /// The number that a word of one to eight digits says.
+// not `u32::from_str_radix`, which takes a text and not bytes, and a sign before the digits
 pub(super) fn hex(word: &[u8]) -> Result<u32, Reason>
     ensures { result ≡ hex_of word.now }
 {

@@ -1,9 +1,11 @@
 //! Why a text is refused.
 
-ghost use Rattle.std.specs.Prelude.{◌≡◌};
+ghost use Rattle.std.specs.Prelude.{Some};
 ghost use Rattle.plantext.specs.Reasons.{spoken};
 
-#[derive(Clone, Copy)]
+use std::fmt;
+
+#[derive(Clone, Copy, Debug, Eq, PartialEq)]
 pub enum Reason {
     /// A word stands before any section line.
     NoSection,
@@ -20,18 +22,17 @@ pub enum Reason {
 }
 
 /// A reason, and the line that it is found on, counted from 1; line 0 is the text as a whole.
-#[derive(Clone, Copy)]
+#[derive(Clone, Copy, Debug, Eq, PartialEq)]
 pub struct TextFault {
     pub line: usize,
     pub reason: Reason,
 }
 
-impl Reason {
-    /// The reason in words.
-    pub fn text(&self) -> &'static str
-        ensures { result.now ≡ spoken self.now }
-    {
-        match self {
+impl fmt::Display for Reason {
+    ghost output = { λ r. Some (spoken r) };
+
+    fn fmt<W: fmt::Write>(&self, f: &mut fmt::Formatter<W>) -> fmt::Result {
+        f.write_str(match self {
             Reason::NoSection => "a word stands before any section line",
             Reason::SectionOutOfPlace =>
                 "section out of place: first drawn or cells, then zones up to twice, then policy",
@@ -39,6 +40,6 @@ impl Reason {
             Reason::LongWord => "a word has more than eight characters; only spaces separate words",
             Reason::MissingSection => "no section line: drawn or cells is wanted",
             Reason::NoRoom => "no room for a text of this length",
-        }
+        })
     }
 }

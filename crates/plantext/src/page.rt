@@ -5,7 +5,7 @@ ghost use Rattle.std.specs.Prelude.{◌≤◌, vec_capacity};
 pub mod reading;
 
 /// The names that a section line may have.
-#[derive(Clone, Copy)]
+#[derive(Clone, Copy, Debug, Eq, PartialEq)]
 pub enum Heading {
     Drawn,
     Cells,
@@ -14,6 +14,7 @@ pub enum Heading {
 }
 
 /// A section: its words are those from `first` on, up to the next section's first.
+// an index and no list of its own: all memory is taken when the page is made
 #[derive(Clone, Copy)]
 struct Section {
     heading: Heading,

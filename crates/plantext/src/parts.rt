@@ -1,36 +1,57 @@
-//! The parts of a text: what stands before and after a byte, and the words of a line.
+//! The parts of a text: its lines, what stands before and after a byte, and the words of a line.
 
-ghost use Rattle.std.specs.Prelude.{◌≡◌, ℕ, ◌+◌, ◌<◌, ◌≤◌, length, IfSome};
-ghost use Rattle.plantext.specs.Parts.{before, after, words_of};
-ghost use Rattle.plantext.specs.Shown.{shown_words};
+ghost use Rattle.std.specs.Prelude.{◌≡◌};
+ghost use Rattle.std.specs.Iterator.{YieldsFirstRef, item_count};
+ghost use Rattle.plantext.specs.Parts.{before, after, lines_of, words_of};
 
 /// What stands before the first `stop`, and what stands after it.
 pub(super) fn cut(bytes: &[u8], stop: u8) -> (&[u8], &[u8])
     ensures front { result.0.now ≡ before stop bytes.now }
     ensures back { result.1.now ≡ after stop bytes.now }
-    ensures all { length result.0.now + length result.1.now ≤ length bytes.now }
-    ensures less { 0 < length bytes.now → length result.1.now < length bytes.now }
 {
-    for (i, b) in bytes.iter().enumerate() {
-        if *b == stop {
-            return (&bytes[..i], &bytes[i + 1..]);
-        }
+    match bytes.iter().position(|b| *b == stop) {
+        Some(i) => (&bytes[..i], &bytes[i + 1..]),
+        None => (bytes, &[]),
     }
-    (bytes, &[])
 }
 
-/// The first word of a line, and what stands after it.
-pub(super) fn next_word(line: &[u8]) -> Option<(&[u8], &[u8])>
-    ensures words { shown_words result ≡ words_of line.now }
-    ensures less { IfSome result (λ p. length p.1.now < length line.now) }
-{
-    let mut left = line;
-    while !left.is_empty() {
-        let (word, rest) = cut(left, b' ');
-        if !word.is_empty() {
-            return Some((word, rest));
+/// The lines of a text.
+#[derive(Clone, Copy)]
+pub(super) struct Lines<'a>(pub(super) &'a [u8]);
+
+impl<'a> Iterator for Lines<'a> {
+    type Item = &'a [u8];
+
+    ghost next_gives = { YieldsFirstRef (λ s. lines_of s.0.now) };
+
+    ghost remaining = { item_count (λ s. lines_of s.0.now) };
+
+    fn next(&mut self) -> Option<&'a [u8]> {
+        if self.0.is_empty() {
+            return None;
         }
-        left = rest;
+        let (line, rest) = cut(self.0, b'\n');
+        self.0 = rest;
+        Some(line)
     }
-    None
+}
+
+/// The words of a line.
+#[derive(Clone, Copy)]
+pub(super) struct LineWords<'a>(pub(super) &'a [u8]);
+
+impl<'a> Iterator for LineWords<'a> {
+    type Item = &'a [u8];
+
+    ghost next_gives = { YieldsFirstRef (λ s. words_of s.0.now) };
+
+    ghost remaining = { item_count (λ s. words_of s.0.now) };
+
+    fn next(&mut self) -> Option<&'a [u8]> {
+        let line = self.0;
+        let start = line.iter().position(|b| *b != b' ')?;
+        let (word, rest) = cut(&line[start..], b' ');
+        self.0 = rest;
+        Some(word)
+    }
 }

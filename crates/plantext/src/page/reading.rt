@@ -9,7 +9,7 @@ ghost use Rattle.plantext.specs.Writing.{written, Words, drawing};
 
 use super::super::digits::hex;
 use super::super::faults::{Reason, TextFault};
-use super::super::parts::{cut, next_word};
+use super::super::parts::{LineWords, Lines, cut};
 use super::{Heading, Page, Section};
 use std::alloc::{AllocError, Global};
 
@@ -18,29 +18,23 @@ impl Heading {
     fn named(word: &[u8]) -> Option<Heading>
         ensures { result ≡ named word.now }
     {
-        if word == b"drawn".as_slice() {
-            return Some(Heading::Drawn);
+        match word {
+            b"drawn" => Some(Heading::Drawn),
+            b"cells" => Some(Heading::Cells),
+            b"zones" => Some(Heading::Zones),
+            b"policy" => Some(Heading::Policy),
+            _ => None,
         }
-        if word == b"cells".as_slice() {
-            return Some(Heading::Cells);
-        }
-        if word == b"zones".as_slice() {
-            return Some(Heading::Zones);
-        }
-        if word == b"policy".as_slice() {
-            return Some(Heading::Policy);
-        }
-        None
     }
 
     /// The section that a line opens, if it is a section line.
     fn of_line(line: &[u8]) -> Option<Heading>
         ensures { result ≡ heading_of (words_of line.now) }
     {
-        let (word, rest) = next_word(line)?;
-        match next_word(rest) {
-            Some(_) => None,
-            None => Heading::named(word),
+        let mut words = LineWords(line);
+        match (words.next(), words.next()) {
+            (Some(word), None) => Heading::named(word),
+            _ => None,
         }
     }
 }
@@ -58,30 +52,22 @@ impl Page {
     fn section(&self, k: usize) -> Option<Section>
         ensures { result ≡ slice_get (content_of self.now).sections k }
     {
-        match self.sections.get(k) {
-            Some(section) => Some(*section),
-            None => None,
-        }
+        self.sections.get(k).copied()
     }
 
     /// The heading of section `k`, if there is one.
     pub fn heading(&self, k: usize) -> Option<Heading>
         ensures { result ≡ heading_at k (content_of self.now) }
     {
-        match self.section(k) {
-            Some(section) => Some(section.heading),
-            None => None,
-        }
+        self.section(k).map(|section| section.heading)
     }
 
     /// Where section `k` starts among the words, or their end where it is not there.
     fn start(&self, k: usize) -> usize
         ensures { result ≡ start_at k (content_of self.now) }
     {
-        match self.section(k) {
-            Some(section) => section.first,
-            None => self.words.len(),
-        }
+        self.section(k)
+            .map_or(self.words.len(), |section| section.first)
     }
 
     /// The words of section `k`, none where there is no such section.
@@ -109,8 +95,9 @@ impl Page {
     fn ruled(&self) -> bool
         ensures { result ≡ ruled (content_of self.now) }
     {
-        let last = self.sections.len().saturating_sub(1);
-        matches!(self.heading(last), Some(Heading::Policy))
+        self.sections
+            .last()
+            .is_some_and(|section| section.heading == Heading::Policy)
     }
 
     /// Whether a section with this heading may open after those that are there.
@@ -120,8 +107,8 @@ impl Page {
         let count = self.sections.len();
         match heading {
             Heading::Drawn | Heading::Cells => count == 0,
-            Heading::Zones => 1 <= count && count <= 2 && !self.ruled(),
-            Heading::Policy => 1 <= count && count <= 3 && !self.ruled(),
+            Heading::Zones => (1..=2).contains(&count) && !self.ruled(),
+            Heading::Policy => (1..=3).contains(&count) && !self.ruled(),
         }
     }
 
@@ -158,10 +145,8 @@ impl Page {
         ensures len { vec_len self.new.words ≤ vec_len self.old.words + length line.now }
         ensures room { room_of self.new ≡ room_of self.old }
     {
-        let mut left = line;
-        while let Some((word, rest)) = next_word(left) {
+        for word in LineWords(line) {
             self.take_word(word)?;
-            left = rest;
         }
         Ok(())
     }
@@ -183,18 +168,14 @@ impl Page {
         ensures content { giving result (content_of self.new) ≡ lines_taken 1 (lines_of text.now) (content_of self.old) }
         ensures room { room_of self.new ≡ room_of self.old }
     {
-        let mut left = text;
+        // the number is counted here, since it is needed after the last line too
         let mut number = 1;
-        while !left.is_empty() {
-            let (line, rest) = cut(left, b'\n');
+        for line in Lines(text) {
             let (said, _) = cut(line, b'#');
-            if let Err(reason) = self.take_line(said) {
-                return Err(TextFault {
-                    line: number,
-                    reason,
-                });
-            }
-            left = rest;
+            self.take_line(said).map_err(|reason| TextFault {
+                line: number,
+                reason,
+            })?;
             number += 1;
         }
         if self.sections.is_empty() {

@@ -1,31 +1,25 @@
--- `cut`: the byte looked for is found, passed by, or not there.
-use Rattle.std.proofs.Common.{◌+◌, sym, ◌∙◌, arith}
-use Rattle.std.proofs.lemmas.List.{take_rest, length-take, length-drop}
-use Rattle.plantext.proofs.Cuts.{before_found, after_found, before_more, after_more, before_all, after_all}
+-- `cut`: the byte looked for is found, or not there.
+use Rattle.std.proofs.Common.{◌≡◌, ◌+◌, Some, None, eqb, sym, ◌∙◌, rules}
+use Rattle.std.specs.List.{position}
+use Rattle.std.proofs.lemmas.Iterator.{YieldsList-from_slice}
+use Rattle.std.proofs.lemmas.Iterator.Search.{position_from_yields_List}
+use Rattle.std.proofs.lemmas.List.{take_rest}
+use borrow.Author.Tests.{tests}
+use Rattle.plantext.proofs.Cuts.{cut_before, cut_after, whole_before, none_after}
 use Rattle.plantext.proofs.parts.cut.Goals as goal
 
-pub returns-then-b-stop : goal.returns-then-b-stop
-returns-then-b-stop c =
-    let xs = c.args.bytes.now in
-    let i = c.loop-i.i in
+pub returns-in-Some : goal.returns-in-Some
+returns-in-Some c =
+    let e : Some c.in-Some.i ≡ position (λ x. eqb x c.args.stop) c.args.bytes.now = sym c.in-Some.is ∙ position_from_yields_List (λ x. eqb x c.args.stop) c.position.new.self _ c.position.result c.position.ensures.ran (YieldsList-from_slice c.args.bytes.now cc) (λ x b q k. search (rules, tests)) in
     record {
-      front = sym (before_found c.args.stop xs i c.loop-i-test.true c.if-b-stop.true c.loop-i.invariant.0);
-      back = take_rest xs (i + 1) ∙ sym (after_found c.args.stop xs i c.loop-i-test.true c.if-b-stop.true c.loop-i.invariant.1);
-      all = simp (take_rest, length-take, length-drop) (omega arith);
-      less = λ _. simp (take_rest, length-drop) (omega arith);
+      front = cut_before c.args.stop c.args.bytes.now c.in-Some.i e;
+      back = take_rest c.args.bytes.now (c.in-Some.i + 1) ∙ cut_after c.args.stop c.args.bytes.now c.in-Some.i e;
     }
 
-pub loop-i-preserved : goal.loop-i-preserved
-loop-i-preserved c = (
-  before_more c.args.stop c.args.bytes.now c.loop-i.i c.loop-i-test.true c.if-b-stop.false c.loop-i.invariant.0,
-  after_more c.args.stop c.args.bytes.now c.loop-i.i c.loop-i-test.true c.if-b-stop.false c.loop-i.invariant.1,
-)
-
-pub returns : goal.returns
-returns c =
+pub returns-in-None : goal.returns-in-None
+returns-in-None c =
+    let e : None ≡ position (λ x. eqb x c.args.stop) c.args.bytes.now = sym c.in-None.is ∙ position_from_yields_List (λ x. eqb x c.args.stop) c.position.new.self _ c.position.result c.position.ensures.ran (YieldsList-from_slice c.args.bytes.now cc) (λ x b q k. search (rules, tests)) in
     record {
-      front = sym (before_all c.args.stop c.args.bytes.now c.loop-i.i c.loop-i-test.false c.loop-i.invariant.0);
-      back = sym (after_all c.args.stop c.args.bytes.now c.loop-i.i c.loop-i-test.false c.loop-i.invariant.1);
-      all = omega arith;
-      less = λ h. h;
+      front = whole_before c.args.stop c.args.bytes.now e;
+      back = none_after c.args.stop c.args.bytes.now e;
     }

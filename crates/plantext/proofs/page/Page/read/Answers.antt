@@ -5,20 +5,12 @@ use Rattle.plantext.specs.Reading.{Content, content_of, room_of, read_of, answer
 use Rattle.plantext.proofs.Back.{page_read}
 use Rattle.plantext.proofs.page.Page.read.Goals as goal
 
-pub returns-then-is_err : goal.returns-then-is_err
-returns-then-is_err c =
+pub returns-then-is_err-clause-back : goal.returns-then-is_err-clause-back
+returns-then-is_err-clause-back c =
     let e : ◌≡◌ {A = Content × Result (Unit {0}) TextFault} (content_of c.clear-then-is_err.new.self, c.take_lines-answer.result) (answered (read_of (room_of c.args.self.now) c.args.text.now)) = search rules in
-    record {
-      content = e;
-      back = λ ws h is le. page_read (room_of c.args.self.now) c.args.text.now ws _ _ e h is le;
-      room = search rules;
-    }
+    λ ws h is le. page_read (room_of c.args.self.now) c.args.text.now ws _ _ e h is le
 
-pub returns-else-is_err : goal.returns-else-is_err
-returns-else-is_err c =
+pub returns-else-is_err-clause-back : goal.returns-else-is_err-clause-back
+returns-else-is_err-clause-back c =
     let e : ◌≡◌ {A = Content × Result (Unit {0}) TextFault} (content_of c.take_lines-answer.new.self, c.take_lines-answer.result) (answered (read_of (room_of c.args.self.now) c.args.text.now)) = search rules in
-    record {
-      content = e;
-      back = λ ws h is le. page_read (room_of c.args.self.now) c.args.text.now ws _ _ e h is le;
-      room = search rules;
-    }
+    λ ws h is le. page_read (room_of c.args.self.now) c.args.text.now ws _ _ e h is le

@@ -1,43 +1,34 @@
--- `take_lines`: one line on, the line that is refused, and the end of the text.
-use Rattle.std.proofs.Common.{eqb, sym, ap, ◌∙◌, arith}
-use Rattle.plantext.specs.Reading.{content_of}
-use Rattle.plantext.proofs.Cuts.{some_from, none_from}
-use Rattle.plantext.proofs.Turns.{line_on, line_off, lines_end, lines_lack}
+-- `take_lines`: the lines together are no longer than the text, and no line is longer without its comment.
+use Rattle.std.proofs.Common.{◌≡◌, Ok, ap, length, sum_by, ◌∙◌, arith, rules}
+use Rattle.std.proofs.lemmas.List.Sums.{sum_by-cons}
+use Rattle.plantext.specs.Parts.{lines_of}
+use Rattle.plantext.proofs.Counts.{few_parts, short_parts, short_before}
+use Rattle.plantext.proofs.Turns.{line_on}
 use Rattle.plantext.proofs.page.Page.take_lines.Goals as goal
 
-pub returns-in-Err : goal.returns-in-Err
-returns-in-Err c =
-    let more = some_from _ _ c.is_empty.ensures c.loop-left-test.true in
-    let here = c.cut.ensures in
-    let t = c.in-Err.ensures in
-    record {
-      content = line_off c.loop-left.number c.loop-left.left.now c.cut.result.0.now c.cut.result.1.now c.cut-in-loop-left.result.0.now (content_of c.loop-left.self) c.in-Err.reason more here.front here.back c.cut-in-loop-left.ensures.front t.content ∙ c.loop-left.invariant.0;
-      room = cc (t.room, c.loop-left.invariant.2);
-    }
+pub take_line-requires : goal.take_line-requires
+take_line-requires c =
+    let t = short_parts 10 c.args.text.now in
+    let s = ap (sum_by length) c.in-Some.ensures.steps ∙ sum_by-cons length c.in-Some.line.now (lines_of c.next.new.self.0.now) in
+    let k = short_before 35 c.in-Some.line.now in
+    let e = ap length c.cut.ensures.front in
+    omega arith
 
-pub loop-left-preserved : goal.loop-left-preserved
-loop-left-preserved c =
-    let more = some_from _ _ c.is_empty.ensures c.loop-left-test.true in
-    let here = c.cut.ensures in
-    let said = c.cut-in-loop-left.ensures in
-    let t = c.in_default.ensures in
-    let inv = c.loop-left.invariant in (
-      line_on c.loop-left.number c.loop-left.left.now c.cut.result.0.now c.cut.result.1.now c.cut-in-loop-left.result.0.now (content_of c.loop-left.self) (content_of c.take_line.new.self) more here.front here.back said.front t.content ∙ inv.0,
-      omega (arith, here.all, said.all, t.len, inv.1),
-      cc (t.room, inv.2),
-      omega (arith, here.less more, inv.3),
+pub overflow_add-number : goal.overflow_add-number
+overflow_add-number c =
+    let t = few_parts 10 c.args.text.now in
+    omega (arith, ap length c.in-Some.ensures.steps)
+
+pub loop-line-preserved : goal.loop-line-preserved
+loop-line-preserved c =
+    let s = ap (sum_by length) c.in-Some.ensures.steps ∙ sum_by-cons length c.in-Some.line.now (lines_of c.next.new.self.0.now) in
+    let n = ap length c.in-Some.ensures.steps in
+    let k = short_before 35 c.in-Some.line.now in
+    let e = ap length c.cut.ensures.front in
+    let t = c.take_line.ensures in
+    let ok : c.take_line.result ≡ Ok tt = search rules in (
+      line_on c.loop-line.number c.in-Some.line.now c.cut.result.0.now (lines_of c.next.new.self.0.now) _ _ _ c.take_line.result c.in-Some.ensures.steps c.cut.ensures.front t.content ok ∙ c.loop-line.invariant.0,
+      omega arith,
+      cc (t.room, c.loop-line.invariant.2),
+      omega arith,
     )
-
-pub returns-then-is_empty : goal.returns-then-is_empty
-returns-then-is_empty c =
-    record {
-      content = lines_lack c.loop-left.number c.loop-left.left.now (content_of c.loop-left.self) (none_from _ _ c.is_empty.ensures c.loop-left-test.false) (ap (λ n. eqb n 0) (sym c.loop-left.self.sections.ok.0) ∙ sym c.is_empty-2.ensures ∙ c.if-is_empty.true) ∙ c.loop-left.invariant.0;
-      room = c.loop-left.invariant.2;
-    }
-
-pub returns : goal.returns
-returns c =
-    record {
-      content = lines_end c.loop-left.number c.loop-left.left.now (content_of c.loop-left.self) (none_from _ _ c.is_empty.ensures c.loop-left-test.false) (ap (λ n. eqb n 0) (sym c.loop-left.self.sections.ok.0) ∙ sym c.is_empty-2.ensures ∙ c.if-is_empty.false) ∙ c.loop-left.invariant.0;
-      room = c.loop-left.invariant.2;
-    }

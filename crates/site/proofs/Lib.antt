@@ -1,5 +1,4 @@
 -- The lemmas of this crate.
 pub mod Blanks
 pub mod Grounds
-pub mod Rights
 pub mod Sealings

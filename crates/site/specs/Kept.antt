@@ -15,3 +15,7 @@ module _ {P : Type 0} where
     holds = cell s.inside;
     above = cell s.above;
   }
+
+  -- the ground of a site whose plan means what `hall` says of it
+  abbrev pub ground_by : (P → Hall) → Site P → Ground
+  ground_by hall s = ground (hall s.plan) s

@@ -5,9 +5,8 @@ ghost use Rattle.checks.specs.Faults.{schema_of_role};
 ghost use Rattle.policy.specs.Policies.{says};
 ghost use Rattle.rights.specs.Rights.{has_right as has_right_spec};
 ghost use Rattle.rights.specs.Entitlement.{entitled};
-ghost use Rattle.sealing.specs.Ground.{stands_at};
 ghost use Rattle.sealing.specs.Located.{bears as bears_of, where_at};
-ghost use Rattle.site.specs.Kept.{ground};
+ghost use Rattle.site.specs.Kept.{ground_by};
 
 use super::Site;
 use plan::Plan;
@@ -15,28 +14,8 @@ use policy::policy::Policy;
 use records::kinds::Schema;
 use rights::carried::has_right;
 use rights::entitled::is_entitled;
-use rights::table::is_in;
-use search::{Criterion, lowest};
-
-/// The criterion that a place of a type covers a point.
-#[derive(Clone, Copy)]
-struct Spot<'a, P: Plan> {
-    plan: &'a P,
-    ty: u8,
-    x: u16,
-    y: u16,
-}
-
-impl<'a, P: Plan> Criterion for Spot<'a, P> {
-    ghost passes = { λ s. stands_at (P.Plan.hall s.plan.now) s.ty s.x s.y };
-
-    fn at(&self, place: usize) -> bool {
-        match self.plan.type_of(place) {
-            Some(own) => own == self.ty && self.plan.covers(place, self.x, self.y),
-            None => false,
-        }
-    }
-}
+use search::lowest;
+use sets::rows::is_in;
 
 /// The schema of a role.
 fn schema_of(policy: &Policy, role: usize) -> Schema
@@ -48,50 +27,44 @@ fn schema_of(policy: &Policy, role: usize) -> Schema
 impl<P: Plan> Site<P> {
     /// How many badges there are; none before sealing.
     pub fn badges(&self) -> u8
-        ensures { result ≡ (ground (P.Plan.hall self.now.plan) self.now).content.badges }
+        ensures { result ≡ (ground_by P.Plan.hall self.now).content.badges }
     {
         self.policy.badges()
     }
 
     /// How many roles there are; none before sealing.
     pub fn role_count(&self) -> usize
-        ensures { result ≡ length (ground (P.Plan.hall self.now.plan) self.now).content.roles }
+        ensures { result ≡ length (ground_by P.Plan.hall self.now).content.roles }
     {
         self.policy.role_count()
     }
 
     /// Whether a point is on the floor.
     pub fn is_on_floor(&self, x: u16, y: u16) -> bool
-        ensures { result ≡ (ground (P.Plan.hall self.now.plan) self.now).on_floor x y }
+        ensures { result ≡ (ground_by P.Plan.hall self.now).on_floor x y }
     {
         x < self.plan.width() && y < self.plan.height()
     }
 
     /// The lowest-numbered place of a type that covers a point.
     pub fn place_at(&self, ty: u8, x: u16, y: u16) -> Option<usize>
-        ensures { result ≡ (ground (P.Plan.hall self.now.plan) self.now).placed_at ty x y }
+        ensures { result ≡ (ground_by P.Plan.hall self.now).placed_at ty x y }
     {
-        lowest(
-            &Spot {
-                plan: &self.plan,
-                ty,
-                x,
-                y,
-            },
-            self.plan.count(),
-        )
+        lowest(self.plan.count(), |place| {
+            self.plan.type_of(place).is_some_and(|own| own == ty) && self.plan.covers(place, x, y)
+        })
     }
 
     /// Whether the patience of a role's schema suffices for so many misses.
     pub fn bears(&self, role: usize, misses: u8) -> bool
-        ensures { result ≡ bears_of (ground (P.Plan.hall self.now.plan) self.now) role misses }
+        ensures { result ≡ bears_of (ground_by P.Plan.hall self.now) role misses }
     {
         misses <= schema_of(&self.policy, role).patience
     }
 
     /// Where a badge heard at a point, and missed so many times since, is for a role.
     pub fn place_for(&self, role: usize, x: u16, y: u16, misses: u8) -> Option<usize>
-        ensures { result ≡ where_at (ground (P.Plan.hall self.now.plan) self.now) role x y misses }
+        ensures { result ≡ where_at (ground_by P.Plan.hall self.now) role x y misses }
     {
         if self.bears(role, misses) {
             self.place_at(schema_of(&self.policy, role).logic, x, y)
@@ -102,23 +75,22 @@ impl<P: Plan> Site<P> {
 
     /// Whether a place lies in the extent of a role.
     pub fn holds(&self, role: usize, place: usize) -> bool
-        ensures { result ≡ (ground (P.Plan.hall self.now.plan) self.now).holds role place }
+        ensures { result ≡ (ground_by P.Plan.hall self.now).holds role place }
     {
         is_in(&self.inside, role, place)
     }
 
     /// Whether a role has a right, by itself or by an ancestor. No right has an operation above 15.
     pub fn has_right(&self, role: usize, operation: u16, object: u16) -> bool
-        ensures { result ≡ (nat_lt operation 16 && has_right_spec (ground (P.Plan.hall self.now.plan) self.now).above (says self.now.policy) role operation object) }
+        ensures { result ≡ (nat_lt operation 16 && has_right_spec (ground_by P.Plan.hall self.now).above (says self.now.policy) role operation object) }
     {
-        operation < 16
-            && (role < 64 && has_right(&self.policy, &self.above, role as u16, operation, object))
+        operation < 16 && has_right(&self.policy, &self.above, role, operation, object)
     }
 
     /// Whether a badge is entitled to a role.
     pub fn is_entitled(&self, badge: u16, role: u16) -> bool
-        ensures { result ≡ entitled (ground (P.Plan.hall self.now.plan) self.now).above (says self.now.policy) badge role }
+        ensures { result ≡ entitled (ground_by P.Plan.hall self.now).above (says self.now.policy) badge role }
     {
-        is_entitled(&self.policy, &self.above, badge, role)
+        is_entitled(&self.policy, &self.above, badge, role as usize)
     }
 }

@@ -1,17 +1,24 @@
 -- How long the next line is, and the lines after it.
-use Rattle.std.proofs.Common.{◌≡◌, ℕ, suc, ◌+◌, ◌-◌, ◌<◌, ◌≤◌, Bool, true, false, cond, eqb, ◌≢◌, List, [], ◌∷◌, length, get_or, take, drop, Some, sym, refl, ap, ◌∙◌, arith}
-use Rattle.std.proofs.lemmas.List.{at_drop_more, at_drop_all, drop-drop, length-drop}
-use Rattle.std.proofs.lemmas.Bool.{cond-true, cond-false, eq-eqb, ne_eqb}
-use Rattle.benchlines.specs.Input.{lines_of, line_length, in_front, line_feed, first, others}
+use Rattle.std.proofs.Common.{◌≡◌, min, not, ⊎_elim, None, position, unwrap_or, ◌==◌, ℕ, suc, ◌+◌, ◌-◌, ◌<◌, ◌≤◌, Bool, true, false, cond, eqb, List, [], ◌∷◌, length, take, drop, Some, sym, refl, ap, ◌∙◌, arith}
+use Rattle.std.specs.List.{position_or_len}
+use Rattle.std.proofs.lemmas.List.{drop_all, length-drop, take_all}
+use Rattle.std.proofs.lemmas.List.Recursion.{is_position_or_len}
+use Rattle.std.proofs.lemmas.List.Sums.{prefix_len-le-length}
+use Rattle.std.proofs.lemmas.Bool.{cases_lt, lt-ltb, le-ltb, eqb-false}
+use Rattle.benchlines.specs.Input.{lines_of, line_length, in_front, line_feed}
 
-pub length_more : (bs : List ℕ) (at : ℕ) → at < length bs → get_or bs at 0 ≢ line_feed → line_length (drop at bs) ≡ suc (line_length (drop (at + 1) bs))
-length_more bs at l h = at_drop_more line_length bs at 0 l ∙ cond-false _ _ _ (ne_eqb (get_or bs at 0) line_feed h)
+-- how many bytes stand before the first line feed
+at_feed : (bs : List ℕ) → line_length bs ≡ position_or_len (λ b. b == line_feed) bs
+at_feed bs = is_position_or_len line_length (λ b. b == line_feed) refl (λ b cs. ap (λ n. cond (eqb b line_feed) 0 n) (omega arith)) bs
 
-pub length_here : (bs : List ℕ) (at : ℕ) → at < length bs → get_or bs at 0 ≡ line_feed → line_length (drop at bs) ≡ 0
-length_here bs at l h = at_drop_more line_length bs at 0 l ∙ cond-true _ _ _ (eq-eqb (get_or bs at 0) line_feed h)
-
-pub length_past : (bs : List ℕ) (at : ℕ) → length bs ≤ at → line_length (drop at bs) ≡ 0
-length_past bs at l = at_drop_all line_length bs at l
+-- a line ends at the first line feed, or at the end
+pub line_ends : (bs : List ℕ) → unwrap_or (position (λ b. b == line_feed) bs) (length bs) ≡ line_length bs
+line_ends bs =
+    let n = position_or_len (λ b. b == line_feed) bs in
+    ⊎_elim
+    (λ (l : n < length bs). ap (λ t. unwrap_or (cond t (Some n) None) (length bs)) (lt-ltb n (length bs) l) ∙ sym (at_feed bs))
+    (λ (l : length bs ≤ n). ap (λ t. unwrap_or (cond t (Some n) None) (length bs)) (le-ltb n (length bs) l) ∙ omega (arith, at_feed bs, prefix_len-le-length (λ b. not (b == line_feed)) bs))
+    (cases_lt n (length bs))
 
 -- the first line, and the lines after its line feed
 abbrev parted : List ℕ → List (List ℕ)
@@ -30,30 +37,19 @@ pub lines_step : (xs : List ℕ) → 0 < length xs → lines_of xs ≡ parted xs
 lines_step [] l = absurd (omega arith)
 lines_step (b ∷ bs) l = splits (eqb b line_feed) b bs (lines_step bs)
 
-pub lines_none : (bs : List ℕ) (start : ℕ) → length bs ≤ start → lines_of (drop start bs) ≡ []
-lines_none bs start l = at_drop_all lines_of bs start l
+-- where the input ends before the line feed, nothing is left either way
+past_feed : (xs : List ℕ) (n : ℕ) → drop (suc n) xs ≡ drop (min (length xs) (n + 1)) xs
+past_feed xs n =
+    ⊎_elim
+    (λ (l : n < length xs). let k : suc n ≡ min (length xs) (n + 1) = omega arith in ap (λ m. drop m xs) k)
+    (λ (l : length xs ≤ n). drop_all (suc n) xs (omega arith) ∙ sym (drop_all (min (length xs) (n + 1)) xs (omega arith)))
+    (cases_lt n (length xs))
 
-step_at : (bs : List ℕ) (start : ℕ) → start < length bs → lines_of (drop start bs) ≡ parted (drop start bs)
-step_at bs start l = lines_step (drop start bs) (simp length-drop (omega arith))
-
-pub lines_first : (bs : List ℕ) (start end : ℕ) → start < length bs → end ≡ start + line_length (drop start bs) → Some (take (end - start) (drop start bs)) ≡ first (lines_of (drop start bs))
-lines_first bs start end l e =
-    let k : end - start ≡ line_length (drop start bs) = omega arith in
-    ap (λ n. Some (take n (drop start bs))) k ∙ sym (ap first (step_at bs start l))
-
--- what is left where the line feed is passed
-pub lines_passed : (bs : List ℕ) (start at : ℕ) → start < length bs → at ≡ start + line_length (drop start bs) + 1 → lines_of (drop at bs) ≡ others (lines_of (drop start bs))
-lines_passed bs start at l e =
-    let k : at ≡ start + suc (line_length (drop start bs)) = omega arith in
-    ap (λ n. lines_of (drop n bs)) k
-    ∙ sym (ap lines_of (drop-drop (suc (line_length (drop start bs))) start bs))
-    ∙ sym (ap others (step_at bs start l))
-
--- what is left where the input has ended
-pub lines_ended : (bs : List ℕ) (start at : ℕ) → start < length bs → at ≡ start + line_length (drop start bs) → length bs ≤ at → lines_of (drop at bs) ≡ others (lines_of (drop start bs))
-lines_ended bs start at l e h = lines_none bs at h ∙ sym (lines_none bs (at + 1) (omega arith)) ∙ lines_passed bs start (at + 1) l (omega arith)
-
-pub lines_fewer : (bs : List ℕ) (start at : ℕ) → start < length bs → lines_of (drop at bs) ≡ others (lines_of (drop start bs)) → length (lines_of (drop at bs)) < length (lines_of (drop start bs))
-lines_fewer bs start at l e =
-    let r : lines_of (drop at bs) ≡ lines_of (drop (suc (line_length (drop start bs))) (drop start bs)) = e ∙ ap others (step_at bs start l) in
-    omega (arith, ap length r, ap length (step_at bs start l))
+-- of an input that is not empty, the first line and the others
+pub lines_cut : (xs : List ℕ) (end at : ℕ) → false ≡ eqb (length xs) 0 → end ≡ unwrap_or (position (λ b. b == line_feed) xs) (length xs) → at ≡ min (length xs) (end + 1) → lines_of xs ≡ take end xs ∷ lines_of (take (length xs - at) (drop at xs))
+lines_cut xs end at some is after =
+    let n : line_length xs ≡ end = sym (is ∙ line_ends xs) in
+    let more : 0 < length xs = omega (arith, eqb-false (length xs) 0 (sym some)) in
+    lines_step xs more
+    ∙ ap (λ n. take n xs ∷ lines_of (drop (suc n) xs)) n
+    ∙ ap (λ ys. take end xs ∷ lines_of ys) (past_feed xs end ∙ ap (λ m. drop m xs) (sym after) ∙ sym (take_all (length xs - at) (drop at xs) (omega (arith, length-drop at xs))))

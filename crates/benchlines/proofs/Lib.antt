@@ -1,5 +1,4 @@
 -- Lemmas: what a loop's step and its end show.
 mod Feeds
-pub mod Handed
 mod Hexes
 mod Steps

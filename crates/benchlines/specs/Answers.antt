@@ -1,8 +1,8 @@
 -- The printed line of an answer.
-use Rattle.std.specs.Prelude.{ℕ, zero, suc, ◌+◌, ◌*◌, ◌/◌, ◌%◌, ◌^◌, true, false, cond, List, [], ◌∷◌, ◌++◌, Some, None, codes, decimal, nat_lt}
+use Rattle.std.specs.Prelude.{ℕ, zero, suc, ◌+◌, ◌*◌, ◌/◌, ◌%◌, ◌^◌, true, false, cond, List, [], ◌∷◌, ◌++◌, Some, None, Ok, Err, codes, decimal, nat_lt}
 use Rattle.calls.specs.Numbers.{number}
-use Rattle.calls.specs.declared.call.Answer.{Answer}
-use Rattle.calls.specs.declared.call.Answer.TheVariants.{Done, Place, Verdict, RoleSet, Granted, Refused}
+use Rattle.calls.specs.Answers.{Answer}
+use Rattle.calls.specs.declared.call.Reply.TheVariants.{Done, Place, Verdict, RoleSet, Granted}
 
 -- a digit's letter: 0 to 9, then a to f
 abbrev pub glyph : ℕ → ℕ
@@ -14,11 +14,11 @@ hex zero w = []
 hex (suc k) w = glyph (w / 2 ^ (4 * k) % 16) ∷ hex k w
 
 abbrev pub answer_text : Answer → List ℕ
-answer_text Done = codes "ok"
-answer_text (Place (Some place)) = codes "place " ++ decimal place
-answer_text (Place None) = codes "none"
-answer_text (Verdict true) = codes "yes"
-answer_text (Verdict false) = codes "not"
-answer_text (RoleSet roles) = codes "roles " ++ hex 16 roles.bits
-answer_text (Granted role) = codes "grant " ++ decimal role
-answer_text (Refused refusal) = codes "no " ++ decimal (number refusal)
+answer_text (Ok Done) = codes "ok"
+answer_text (Ok (Place (Some place))) = codes "place " ++ decimal place
+answer_text (Ok (Place None)) = codes "none"
+answer_text (Ok (Verdict true)) = codes "yes"
+answer_text (Ok (Verdict false)) = codes "not"
+answer_text (Ok (RoleSet roles)) = codes "roles " ++ hex 16 roles.bits
+answer_text (Ok (Granted role)) = codes "grant " ++ decimal role
+answer_text (Err refusal) = codes "no " ++ decimal (number refusal)

@@ -1,5 +1,6 @@
 -- The arguments of a line.
 use Rattle.std.specs.Prelude.{ℕ, zero, suc, ◌+◌, ◌-◌, ◌*◌, cond, ◌&&◌, List, [], ◌∷◌, drop, Some, None, Option, ◌==◌, nat_le}
+use Rattle.std.specs.Borrow.{Bor}
 
 -- no number is greater
 abbrev pub most_number : ℕ
@@ -44,7 +45,7 @@ arguments_of most zero [] = Some []
 arguments_of most zero (b ∷ bs) = None
 arguments_of most (suc n) bs = and_then (argument_of most bs) (λ a. and_then (arguments_of most n a.1) (λ ns. Some (a.0 ∷ ns)))
 
--- a number and the place after it, as the number and what is left there
-abbrev pub leaving : List ℕ → Option (ℕ × ℕ) → Option (ℕ × List ℕ)
-leaving bs None = None
-leaving bs (Some a) = Some (a.0, drop a.1 bs)
+-- a number and what is left after it, as its bytes
+abbrev pub leaving : Option (ℕ × Bor (List ℕ)) → Option (ℕ × List ℕ)
+leaving None = None
+leaving (Some a) = Some (a.0, a.1.now)

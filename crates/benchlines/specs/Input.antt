@@ -1,6 +1,5 @@
 -- The lines of an input.
-use Rattle.std.specs.Prelude.{ℕ, suc, cond, List, [], ◌∷◌, drop, Some, None, Option, ◌==◌}
-use Rattle.std.specs.Borrow.{Bor}
+use Rattle.std.specs.Prelude.{ℕ, suc, cond, List, [], ◌∷◌, ◌==◌}
 use Rattle.benchlines.specs.declared.input.Lines.{Lines}
 
 -- an input has at most so many bytes
@@ -27,17 +26,4 @@ line_length (b ∷ bs) = cond (b == line_feed) 0 (suc (line_length bs))
 
 -- the lines that are left
 abbrev pub left : Lines → List (List ℕ)
-left lines = lines_of (drop lines.at lines.input.now)
-
-abbrev pub first : List (List ℕ) → Option (List ℕ)
-first [] = None
-first (l ∷ ls) = Some l
-
-abbrev pub others : List (List ℕ) → List (List ℕ)
-others [] = []
-others (l ∷ ls) = ls
-
--- a line as its bytes
-abbrev pub seen : Option (Bor (List ℕ)) → Option (List ℕ)
-seen None = None
-seen (Some l) = Some l.now
+left lines = lines_of lines.rest.now

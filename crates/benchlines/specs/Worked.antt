@@ -1,9 +1,9 @@
 -- Worked lines: the calls of good ones, bad ones, inputs cut into lines, and printed answers.
-use Rattle.std.specs.Prelude.{◌≡◌, ℕ, true, false, List, [], ◌∷◌, ◌++◌, Some, None, codes, Option}
+use Rattle.std.specs.Prelude.{◌≡◌, ℕ, true, false, List, [], ◌∷◌, ◌++◌, Some, None, Ok, Err, codes, Option}
 use Rattle.calls.specs.declared.call.Call.{Call}
 use Rattle.calls.specs.declared.call.Event.{Event}
 use Rattle.calls.specs.declared.call.Event.TheVariants.{Report, Miss, Open, Close, Activate, Drop, Ask}
-use Rattle.calls.specs.declared.call.Answer.TheVariants.{Done, Place, Verdict, RoleSet, Granted, Refused}
+use Rattle.calls.specs.declared.call.Reply.TheVariants.{Done, Place, Verdict, RoleSet, Granted}
 use Rattle.calls.specs.declared.refusal.Refusal.TheVariants.{UnknownBadge, NotEnabled}
 use Rattle.benchlines.specs.Answers.{answer_text}
 use Rattle.benchlines.specs.Input.{lines_of, line_feed}
@@ -66,12 +66,12 @@ pub record CutInputs : Type 0 where
   pub two_lines : lines_of (codes "O 0 0" ++ line_feed ∷ codes "M 0") ≡ codes "O 0 0" ∷ codes "M 0" ∷ []
 
 pub record PrintedLines : Type 0 where
-  pub done : answer_text Done ≡ codes "ok"
-  pub granted : answer_text (Granted 12) ≡ codes "grant 12"
-  pub first_refusal : answer_text (Refused UnknownBadge) ≡ codes "no 1"
-  pub last_refusal : answer_text (Refused NotEnabled) ≡ codes "no 13"
-  pub at_place : answer_text (Place (Some 7)) ≡ codes "place 7"
-  pub nowhere : answer_text (Place None) ≡ codes "none"
-  pub enabled : answer_text (Verdict true) ≡ codes "yes"
-  pub not_enabled : answer_text (Verdict false) ≡ codes "not"
-  pub roles : answer_text (RoleSet (record { bits = 18364758544493064720 })) ≡ codes "roles fedcba9876543210"
+  pub done : answer_text (Ok Done) ≡ codes "ok"
+  pub granted : answer_text (Ok (Granted 12)) ≡ codes "grant 12"
+  pub first_refusal : answer_text (Err UnknownBadge) ≡ codes "no 1"
+  pub last_refusal : answer_text (Err NotEnabled) ≡ codes "no 13"
+  pub at_place : answer_text (Ok (Place (Some 7))) ≡ codes "place 7"
+  pub nowhere : answer_text (Ok (Place None)) ≡ codes "none"
+  pub enabled : answer_text (Ok (Verdict true)) ≡ codes "yes"
+  pub not_enabled : answer_text (Ok (Verdict false)) ≡ codes "not"
+  pub roles : answer_text (Ok (RoleSet (record { bits = 18364758544493064720 }))) ≡ codes "roles fedcba9876543210"

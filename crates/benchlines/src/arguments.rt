@@ -1,84 +1,59 @@
 //! The arguments of a line: before each one space, and then its decimal digits.
 
-ghost use Rattle.std.specs.Prelude.{◌≡◌, ◌<◌, length, drop, IfSome};
-ghost use Rattle.benchlines.specs.Arguments.{arguments_of, argument_of, digits_of, digit_of, worth_of, leaving};
+ghost use Rattle.std.specs.Prelude.{◌≡◌, ◌<◌, drop, Some, IfSome};
+ghost use Rattle.benchlines.specs.Arguments.{and_then, arguments_of, argument_of, digits_of, digit_of, leaving};
 
-/// A number above this one is bad, however few digits it has.
-pub const MOST_NUMBER: u32 = 65535;
-
-/// What a byte is worth as a digit.
-fn worth(b: u8) -> Option<u32>
-    ensures value { result ≡ worth_of b }
-    ensures small { IfSome result (λ d. d < 10) }
+/// What the digit in front is worth, and what is left after it.
+fn digit(line: &[u8]) -> Option<(u16, &[u8])>
+    ensures value { leaving result ≡ and_then (digit_of line.now) (λ d. Some (d, drop 1 line.now)) }
+    ensures small { IfSome result (λ a. a.0 < 10) }
 {
-    match b {
-        b'0'..=b'9' => Some(u32::from(b - b'0')),
+    match line {
+        [digit @ b'0'..=b'9', rest @ ..] => Some((u16::from(digit - b'0'), rest)),
         _ => None,
     }
 }
 
-/// The digit at a place.
-fn digit(line: &[u8], at: usize) -> Option<u32>
-    ensures value { result ≡ digit_of (drop at line.now) }
-    ensures small { IfSome result (λ d. (d < 10) × (at < length line.now)) }
+/// The number that the digits in front say, at most so many of them, and what is left after them; none above 65,535,
+/// however few its digits. No `parse`: it takes a sign.
+fn digits(line: &[u8], most: usize) -> Option<(u16, &[u8])>
+    ensures { leaving result ≡ digits_of most 0 line.now }
 {
-    if at < line.len() {
-        worth(line[at])
-    } else {
-        None
-    }
-}
-
-/// The number that the digits from a place on say, at most so many of them, and the place after them.
-fn digits(line: &[u8], from: usize, most: usize) -> Option<(u16, usize)>
-    ensures { leaving line.now result ≡ digits_of most 0 (drop from line.now) }
-{
-    let mut number = 0;
-    let mut at = from;
-    let mut left = most;
-    while left > 0 {
-        let Some(d) = digit(line, at) else {
+    let mut number = 0u16;
+    let mut rest = line;
+    for _ in 0..most {
+        let Some((digit, after)) = digit(rest) else {
             break;
         };
-        number = number * 10 + d;
-        if number > MOST_NUMBER {
-            return None;
-        }
-        at += 1;
-        left -= 1;
+        number = number.checked_mul(10)?.checked_add(digit)?;
+        rest = after;
     }
-    Some((number as u16, at))
+    Some((number, rest))
 }
 
-/// The argument at a place: one space and one digit or more, at most so many; and the place after it.
-fn argument(line: &[u8], at: usize, most: usize) -> Option<(u16, usize)>
-    ensures { leaving line.now result ≡ argument_of most (drop at line.now) }
+/// The argument in front, one space and one digit or more, at most so many; and what is left after it.
+fn argument(line: &[u8], most: usize) -> Option<(u16, &[u8])>
+    ensures { leaving result ≡ argument_of most line.now }
 {
-    if at >= line.len() {
-        return None;
-    }
-    if line[at] != b' ' {
-        return None;
-    }
-    let Some(_) = digit(line, at + 1) else {
+    let [b' ', number @ ..] = line else {
         return None;
     };
-    digits(line, at + 1, most)
+    let [b'0'..=b'9', ..] = number else {
+        return None;
+    };
+    digits(number, most)
 }
 
-/// The arguments from a place to the end of the line, just N of them, each with at most so many digits.
-pub fn arguments<const N: usize>(line: &[u8], from: usize, most: usize) -> Option<[u16; N]>
-    ensures { result ≡ arguments_of most N (drop from line.now) }
+/// The arguments of a line, just N of them, each with at most so many digits.
+pub fn arguments<const N: usize>(line: &[u8], most: usize) -> Option<[u16; N]>
+    ensures { result ≡ arguments_of most N line.now }
 {
     let mut numbers = [0; N];
-    let mut at = from;
-    for i in 0..N {
-        let (number, after) = argument(line, at, most)?;
-        numbers[i] = number;
-        at = after;
+    let mut rest = line;
+    for number in numbers.iter_mut() {
+        let (value, after) = argument(rest, most)?;
+        *number = value;
+        rest = after;
     }
-    if at < line.len() {
-        return None;
-    }
-    Some(numbers)
+    rest.is_empty().then_some(numbers)
 }

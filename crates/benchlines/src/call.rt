@@ -16,48 +16,63 @@ pub const MOST_DIGITS: usize = 3;
 pub fn call_of(line: &[u8]) -> Option<Call>
     ensures { result ≡ line_call line.now }
 {
-    if line.is_empty() || line.len() > LONGEST_LINE {
+    if line.len() > LONGEST_LINE {
         return None;
     }
-    match line[0] as char {
+    let (&letter, rest) = line.split_first()?;
+    match char::from(letter) {
         'R' => {
-            let [badge, x, y] = arguments::<3>(line, 1, MOST_DIGITS)?;
-            let event = Event::Report { x, y };
-            Some(Call { badge, event })
+            let [badge, x, y] = arguments::<3>(rest, MOST_DIGITS)?;
+            Some(Call {
+                badge,
+                event: Event::Report { x, y },
+            })
         }
         'M' => {
-            let [badge] = arguments::<1>(line, 1, MOST_DIGITS)?;
-            let event = Event::Miss;
-            Some(Call { badge, event })
+            let [badge] = arguments::<1>(rest, MOST_DIGITS)?;
+            Some(Call {
+                badge,
+                event: Event::Miss,
+            })
         }
         'O' => {
-            let [badge, session] = arguments::<2>(line, 1, MOST_DIGITS)?;
-            let event = Event::Open { session };
-            Some(Call { badge, event })
+            let [badge, session] = arguments::<2>(rest, MOST_DIGITS)?;
+            Some(Call {
+                badge,
+                event: Event::Open { session },
+            })
         }
         'C' => {
-            let [badge, session] = arguments::<2>(line, 1, MOST_DIGITS)?;
-            let event = Event::Close { session };
-            Some(Call { badge, event })
+            let [badge, session] = arguments::<2>(rest, MOST_DIGITS)?;
+            Some(Call {
+                badge,
+                event: Event::Close { session },
+            })
         }
         'A' => {
-            let [badge, session, role] = arguments::<3>(line, 1, MOST_DIGITS)?;
-            let event = Event::Activate { session, role };
-            Some(Call { badge, event })
+            let [badge, session, role] = arguments::<3>(rest, MOST_DIGITS)?;
+            Some(Call {
+                badge,
+                event: Event::Activate { session, role },
+            })
         }
         'D' => {
-            let [badge, session, role] = arguments::<3>(line, 1, MOST_DIGITS)?;
-            let event = Event::Drop { session, role };
-            Some(Call { badge, event })
+            let [badge, session, role] = arguments::<3>(rest, MOST_DIGITS)?;
+            Some(Call {
+                badge,
+                event: Event::Drop { session, role },
+            })
         }
         'Q' => {
-            let [badge, session, operation, object] = arguments::<4>(line, 1, MOST_DIGITS)?;
-            let event = Event::Ask {
-                session,
-                operation,
-                object,
-            };
-            Some(Call { badge, event })
+            let [badge, session, operation, object] = arguments::<4>(rest, MOST_DIGITS)?;
+            Some(Call {
+                badge,
+                event: Event::Ask {
+                    session,
+                    operation,
+                    object,
+                },
+            })
         }
         _ => None,
     }

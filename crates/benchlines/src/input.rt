@@ -1,7 +1,7 @@
 //! The lines of an input, one after another.
 
-ghost use Rattle.std.specs.Prelude.{◌≡◌, ◌+◌, ◌<◌, ◌≤◌, length, drop, OnSome, nat_le, nat_lt};
-ghost use Rattle.benchlines.specs.Input.{lines_of, line_length, left, first, others, seen, longest_input};
+ghost use Rattle.std.specs.Prelude.{◌≡◌, ◌==◌, length, position, nat_lt};
+ghost use Rattle.benchlines.specs.Input.{lines_of, line_feed, left, longest_input};
 
 /// A line feed ends a line.
 pub const LINE_FEED: u8 = 10;
@@ -16,27 +16,17 @@ pub fn is_long(input: &[u8]) -> bool
     input.len() > LONGEST_INPUT
 }
 
-/// The place where a line ends: at the first line feed, or at the end of the input.
-fn line_end(input: &[u8], from: usize) -> usize
-    requires { from ≤ length input.now }
-    ensures value { result ≡ from + line_length (drop from input.now) }
-    ensures within { result ≤ length input.now }
+/// The place of the first line feed.
+fn first_feed(input: &[u8]) -> Option<usize>
+    ensures { result ≡ position (λ b. b == line_feed) input.now }
 {
-    let mut end = from;
-    while end < input.len() {
-        if input[end] == LINE_FEED {
-            break;
-        }
-        end += 1;
-    }
-    end
+    input.iter().position(|b| *b == LINE_FEED)
 }
 
-/// What is left of an input: its bytes from a place on.
+/// The lines that are left of an input, whose line feeds are not counted.
 #[derive(Drop)]
 pub struct Lines<'a> {
-    input: &'a [u8],
-    at: usize,
+    rest: &'a [u8],
 }
 
 impl<'a> Lines<'a> {
@@ -44,28 +34,27 @@ impl<'a> Lines<'a> {
     pub fn new(input: &'a [u8]) -> Lines<'a>
         ensures { left result ≡ lines_of input.now }
     {
-        Lines { input, at: 0 }
+        Lines { rest: input }
     }
+}
 
-    /// Whether no line is left.
-    fn is_over(&self) -> bool
-        ensures { result ≡ nat_le (length self.now.input.now) self.now.at }
-    {
-        self.at >= self.input.len()
-    }
+impl<'a> Iterator for Lines<'a> {
+    ghost use Rattle.std.specs.Iterator.{YieldsFirstRef, item_count};
+    ghost use Rattle.benchlines.specs.Input.{left};
 
-    /// The next line, its line feed not counted.
-    pub fn next(&mut self) -> Option<&'a [u8]>
-        ensures line { seen result ≡ first (left self.old) }
-        ensures rest { left self.new ≡ others (left self.old) }
-        ensures fewer { OnSome result (length (left self.new) < length (left self.old)) }
-    {
-        if self.is_over() {
+    type Item = &'a [u8];
+
+    ghost next_gives = { YieldsFirstRef left };
+
+    ghost remaining = { item_count left };
+
+    fn next(&mut self) -> Option<&'a [u8]> {
+        if self.rest.is_empty() {
             return None;
         }
-        let start = self.at;
-        let end = line_end(self.input, start);
-        self.at = if end < self.input.len() { end + 1 } else { end };
-        Some(&self.input[start..end])
+        let end = first_feed(self.rest).unwrap_or(self.rest.len());
+        let line = &self.rest[..end];
+        self.rest = &self.rest[self.rest.len().min(end + 1)..];
+        Some(line)
     }
 }

@@ -2,3 +2,4 @@
 pub mod Numbers
 pub mod Standing
 pub mod Kept
+pub mod Answers

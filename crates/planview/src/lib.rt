@@ -14,22 +14,17 @@ fn points_of_row<P: Plan>(plan: &P, place: usize, y: u16) -> u32
     ensures value { result ≡ points_of_row_spec (P.hall plan.now) place y }
     ensures most { result ≤ 256 }
 {
-    let mut points = 0u32;
-    for x in 0..plan.width() {
-        if plan.covers(place, x, y) {
-            points += 1;
-        }
-    }
-    points
+    let points = (0..plan.width())
+        .filter(|x| plan.covers(place, *x, y))
+        .count();
+    points as u32
 }
 
 /// How many points a place covers.
 pub fn points<P: Plan>(plan: &P, place: usize) -> u32
     ensures { result ≡ points_of (P.hall plan.now) place }
 {
-    let mut points = 0u32;
-    for y in 0..plan.height() {
-        points += points_of_row(plan, place, y);
-    }
-    points
+    (0..plan.height())
+        .map(|y| points_of_row(plan, place, y))
+        .sum()
 }

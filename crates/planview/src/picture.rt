@@ -1,16 +1,15 @@
 //! A place as a picture, row by row.
 
-ghost use Rattle.std.specs.Prelude.{◌≡◌, ℕ, ◌≤◌, take};
+ghost use Rattle.std.specs.Prelude.{◌≡◌, ℕ};
 ghost use Rattle.planview.specs.Views.{mark_at, picture_row};
 
+use arrayvec::ArrayVec;
 use plan::Plan;
 
 /// One row: `#` for each point that is covered, `.` for each other one.
-#[derive(Clone, Copy)]
+#[derive(Drop)]
 pub struct Row {
-    marks: [u8; 256],
-    width: usize,
-    ghost within: { width ≤ 256 },
+    marks: ArrayVec<u8, 256>,
 }
 
 fn mark<P: Plan>(plan: &P, place: usize, x: u16, y: u16) -> u8
@@ -22,23 +21,19 @@ fn mark<P: Plan>(plan: &P, place: usize, x: u16, y: u16) -> u8
 impl Row {
     /// Row `y` of a place.
     pub fn of_place<P: Plan>(plan: &P, place: usize, y: u16) -> Row
-        ensures { take result.width result.marks ≡ picture_row (P.hall plan.now) place y }
+        ensures { result.marks.items ≡ picture_row (P.hall plan.now) place y }
     {
-        let mut marks = [b'.'; 256];
-        let width = plan.width();
-        for x in 0..width {
-            marks[x as usize] = mark(plan, place, x, y);
+        let mut marks = ArrayVec::new();
+        for x in 0..plan.width() {
+            marks.push(mark(plan, place, x, y));
         }
-        Row {
-            marks,
-            width: width as usize,
-        }
+        Row { marks }
     }
 
     /// The marks from side to side.
     pub fn marks(&self) -> &[u8]
-        ensures { result.now ≡ take self.now.width self.now.marks }
+        ensures { result.now ≡ self.now.marks.items }
     {
-        &self.marks[..self.width]
+        self.marks.as_slice()
     }
 }

@@ -3,3 +3,4 @@ pub mod Numbers
 pub mod Sight
 pub mod Faults
 pub mod Laws
+pub mod Cases

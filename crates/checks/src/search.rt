@@ -1,27 +1,38 @@
 //! The search for the first fault: each check goes over everything before the next begins.
 
-ghost use Rattle.std.specs.Prelude.{◌≡◌, ℕ, length, Option as Maybe};
-ghost use Rattle.sets.specs.Bounds.{first_of};
+ghost use Rattle.std.specs.Prelude.{◌≡◌, ℕ, not, length, Option as Maybe};
+ghost use Rattle.std.specs.Result.{result_err};
+ghost use Rattle.sets.specs.Bounds.{first_of, when};
 ghost use Rattle.plan.specs.Hall.{Hall};
 ghost use Rattle.survey.specs.Kept.{Tied};
 ghost use Rattle.policy.specs.Policies.{says};
+ghost use Rattle.policy.specs.Contents.{schema_at};
 ghost use Rattle.checks.specs.declared.faults.SealFault.{SealFault as Found};
-ghost use Rattle.checks.specs.Sight.{sight_of, kept, is_of as is_of_spec};
-ghost use Rattle.checks.specs.Faults.{types_lie as types_lie_spec, empty, misplaced, outside, outsides, overlap, all_overlaps, unlike, impatient, first_fault as first_fault_spec};
+ghost use Rattle.checks.specs.Sight.{sight_of, kept};
+ghost use Rattle.checks.specs.Faults.{types_lie as types_lie_spec, empty, misplaced, outsides, overlap, all_overlaps, unlike, impatient, first_fault as first_fault_spec};
+ghost use Rattle.checks.specs.Cases.{FindsBy, of_case};
 
 use crate::faults::SealFault;
 use policy::policy::Policy;
-use records::kinds::Schema;
+use records::kinds::{Parent, Schema};
 use survey::Survey;
 
-/// Whether the number is in use and the place of that type.
-fn is_of(survey: &Survey, place: usize, ty: u8) -> bool
-    ensures { result ≡ is_of_spec (kept survey.now) ty place }
+/// The fault, where the test holds.
+fn refuse_if(refused: bool, fault: SealFault) -> Result<(), SealFault>
+    ensures { result_err result ≡ when refused fault }
 {
-    match survey.type_of(place) {
-        Some(own) => own == ty,
-        None => false,
+    if refused { Err(fault) } else { Ok(()) }
+}
+
+/// What the check finds at the lowest number below `n` at which it finds anything.
+fn first<F: Fn(usize) -> Result<(), SealFault>>(n: usize, check: F) -> Result<(), SealFault>
+    requires { F.IsAlwaysCallable check }
+    ensures { (finds : ℕ → Maybe Found) → FindsBy n (F.post check) finds → result_err result ≡ first_of n finds }
+{
+    for k in 0..n {
+        check(k)?;
     }
+    Ok(())
 }
 
 /// Whether the extent type of the one schema lies in that of the other, and the logic type likewise.
@@ -31,26 +42,6 @@ fn types_lie(survey: &Survey, child: Schema, parent: Schema) -> bool
     survey.type_lies(child.extent, parent.extent) && survey.type_lies(child.logic, parent.logic)
 }
 
-/// What a check finds at each number.
-trait Check {
-    ghost finds: { Self → ℕ → Maybe Found };
-
-    fn at(&self, k: usize) -> Option<SealFault>
-        ensures { result ≡ finds self.now k };
-}
-
-/// What the check finds at the lowest number below `n` at which it finds anything.
-fn first<C: Check>(check: &C, n: usize) -> Option<SealFault>
-    ensures { result ≡ first_of n (C.Check.finds check.now) }
-{
-    for k in 0..n {
-        if let Some(fault) = check.at(k) {
-            return Some(fault);
-        }
-    }
-    None
-}
-
 /// A policy over what was seen of a plan.
 #[derive(Clone, Copy)]
 struct Case<'a> {
@@ -58,156 +49,63 @@ struct Case<'a> {
     policy: &'a Policy,
 }
 
-/// The check that each place covers a point.
-#[derive(Clone, Copy)]
-struct Places<'a>(Case<'a>);
-
-impl<'a> Check for Places<'a> {
-    ghost finds = { λ c. empty (kept c.0.survey.now) (says c.0.policy.now) };
-
-    fn at(&self, k: usize) -> Option<SealFault> {
-        if self.0.survey.has_point(k) {
-            None
-        } else {
-            Some(SealFault::Empty { place: k })
-        }
-    }
-}
-
-/// The check that each role's extent is a place of its schema's extent type.
-#[derive(Clone, Copy)]
-struct Roles<'a>(Case<'a>);
-
-impl<'a> Check for Roles<'a> {
-    ghost finds = { λ c. misplaced (kept c.0.survey.now) (says c.0.policy.now) };
-
-    fn at(&self, k: usize) -> Option<SealFault> {
-        let role = self.0.policy.role(k);
-        let schema = self.0.policy.schema(role.schema as usize);
-        if is_of(self.0.survey, role.extent as usize, schema.extent) {
-            None
-        } else {
-            Some(SealFault::Misplaced { role: k })
-        }
-    }
-}
-
-/// The check that each logic place of one schema lies in some place of its extent type.
-#[derive(Clone, Copy)]
-struct Logics<'a> {
-    case: Case<'a>,
-    schema: usize,
-}
-
-impl<'a> Check for Logics<'a> {
-    ghost finds = { λ c. outside (kept c.case.survey.now) (says c.case.policy.now) c.schema };
-
-    fn at(&self, k: usize) -> Option<SealFault> {
-        let schema = self.case.policy.schema(self.schema);
-        if is_of(self.case.survey, k, schema.logic)
-            && !self.case.survey.lies_in_some(k, schema.extent)
-        {
-            Some(SealFault::Outside {
-                schema: self.schema,
-                place: k,
-            })
-        } else {
-            None
-        }
-    }
-}
-
-/// The same check of each schema.
-#[derive(Clone, Copy)]
-struct Schemas<'a>(Case<'a>);
-
-impl<'a> Check for Schemas<'a> {
-    ghost finds = { λ c. outsides (kept c.0.survey.now) (says c.0.policy.now) };
-
-    fn at(&self, k: usize) -> Option<SealFault> {
-        first(
-            &Logics {
-                case: self.0,
-                schema: k,
-            },
-            self.0.survey.count(),
-        )
-    }
-}
-
-/// The check that the types of each child lie in those of its parent.
-#[derive(Clone, Copy)]
-struct Types<'a>(Case<'a>);
-
-impl<'a> Check for Types<'a> {
-    ghost finds = { λ c. unlike (kept c.0.survey.now) (says c.0.policy.now) };
-
-    fn at(&self, k: usize) -> Option<SealFault> {
-        let step = self.0.policy.parent(k);
-        let child = self.0.policy.schema(step.child as usize);
-        let parent = self.0.policy.schema(step.parent as usize);
-        if types_lie(self.0.survey, child, parent) {
-            None
-        } else {
-            Some(SealFault::Unlike {
-                child: step.child as usize,
-                parent: step.parent as usize,
-            })
-        }
-    }
-}
-
-/// The check that each parent is at least as patient as its child.
-#[derive(Clone, Copy)]
-struct Patience<'a>(Case<'a>);
-
-impl<'a> Check for Patience<'a> {
-    ghost finds = { λ c. impatient (kept c.0.survey.now) (says c.0.policy.now) };
-
-    fn at(&self, k: usize) -> Option<SealFault> {
-        let step = self.0.policy.parent(k);
-        let child = self.0.policy.schema(step.child as usize);
-        let parent = self.0.policy.schema(step.parent as usize);
-        if parent.patience < child.patience {
-            Some(SealFault::Impatient {
-                child: step.child as usize,
-                parent: step.parent as usize,
-            })
-        } else {
-            None
-        }
-    }
-}
-
 impl<'a> Case<'a> {
-    /// The fault of a logic place of the schema that shares a point with a place of its extent type and does not lie in it.
-    fn overlap(self, schema: usize, logic: usize, extent: usize) -> Option<SealFault>
-        ensures { result ≡ overlap (kept self.entry.survey.now) (says self.entry.policy.now) schema logic extent }
+    /// A place covers no point.
+    fn empty(self, place: usize) -> Result<(), SealFault>
+        ensures { result_err result ≡ of_case empty self.entry place }
+    {
+        refuse_if(!self.survey.has_point(place), SealFault::Empty { place })
+    }
+
+    /// A role's extent is no place of its schema's extent type.
+    fn misplaced(self, role: usize) -> Result<(), SealFault>
+        ensures { result_err result ≡ of_case misplaced self.entry role }
+    {
+        let own = self.policy.role(role);
+        let schema = self.policy.schema(own.schema as usize);
+        let placed = self.survey.is_of(own.extent as usize, schema.extent);
+        refuse_if(!placed, SealFault::Misplaced { role })
+    }
+
+    /// A logic place of the schema lies in no place of its extent type.
+    fn outside(self, schema: usize) -> Result<(), SealFault>
+        ensures { result_err result ≡ of_case outsides self.entry schema }
     {
         let own = self.policy.schema(schema);
-        let typed = is_of(self.survey, logic, own.logic) && is_of(self.survey, extent, own.extent);
+        first(self.survey.count(), |place| {
+            let typed = self.survey.is_of(place, own.logic);
+            let outside = typed && !self.survey.lies_in_some(place, own.extent);
+            refuse_if(outside, SealFault::Outside { schema, place })
+        })
+    }
+
+    /// A logic place of the schema shares a point with a place of its extent type and does not lie in it.
+    fn overlap(self, schema: usize, logic: usize, extent: usize) -> Result<(), SealFault>
+        ensures { result_err result ≡ of_case overlap self.entry schema logic extent }
+    {
+        let own = self.policy.schema(schema);
+        let typed = self.survey.is_of(logic, own.logic) && self.survey.is_of(extent, own.extent);
         let crossed = self.survey.share(logic, extent) && !self.survey.lies_in(logic, extent);
-        if typed && crossed {
-            Some(SealFault::Overlap {
+        refuse_if(
+            typed && crossed,
+            SealFault::Overlap {
                 schema,
                 logic,
                 extent,
-            })
-        } else {
-            None
-        }
+            },
+        )
     }
 
     /// The first overlap: lowest schema, then lowest logic place, then lowest place of the extent type.
-    fn first_overlap(self) -> Option<SealFault>
-        ensures { result ≡ first_of (length (says self.entry.policy.now).schemas) (all_overlaps (kept self.entry.survey.now) (says self.entry.policy.now)) }
+    fn first_overlap(self) -> Result<(), SealFault>
+        ensures { result_err result ≡ first_of (length (says self.entry.policy.now).schemas) (of_case all_overlaps self.entry) }
     {
-        let mut found = None;
+        let mut found = Ok(());
         'search: for s in 0..self.policy.schema_count() {
             for l in 0..self.survey.count() {
                 for e in 0..self.survey.count() {
-                    if let Some(fault) = self.overlap(s, l, e) {
-                        found = Some(fault);
+                    found = self.overlap(s, l, e);
+                    if found.is_err() {
                         break 'search;
                     }
                 }
@@ -216,33 +114,63 @@ impl<'a> Case<'a> {
         found
     }
 
-    /// The checks in their order.
-    fn first_fault(self) -> Option<SealFault>
-        ensures { result ≡ first_fault_spec (kept self.entry.survey.now) (says self.entry.policy.now) }
+    /// The schemas of a step, the lower one first.
+    fn schemas(self, step: Parent) -> (Schema, Schema)
+        ensures { result ≡ (schema_at (says self.entry.policy.now) step.child, schema_at (says self.entry.policy.now) step.parent) }
     {
-        if let Some(fault) = first(&Places(self), self.survey.count()) {
-            return Some(fault);
-        }
-        if let Some(fault) = first(&Roles(self), self.policy.role_count()) {
-            return Some(fault);
-        }
-        if let Some(fault) = first(&Schemas(self), self.policy.schema_count()) {
-            return Some(fault);
-        }
-        if let Some(fault) = self.first_overlap() {
-            return Some(fault);
-        }
-        if let Some(fault) = first(&Types(self), self.policy.parent_count()) {
-            return Some(fault);
-        }
-        first(&Patience(self), self.policy.parent_count())
+        (
+            self.policy.schema(step.child as usize),
+            self.policy.schema(step.parent as usize),
+        )
+    }
+
+    /// The types of a child do not lie in those of its parent.
+    fn unlike(self, k: usize) -> Result<(), SealFault>
+        ensures { result_err result ≡ of_case unlike self.entry k }
+    {
+        let step = self.policy.parent(k);
+        let (child, parent) = self.schemas(step);
+        refuse_if(
+            !types_lie(self.survey, child, parent),
+            SealFault::Unlike {
+                child: step.child as usize,
+                parent: step.parent as usize,
+            },
+        )
+    }
+
+    /// A parent is less patient than its child.
+    fn impatient(self, k: usize) -> Result<(), SealFault>
+        ensures { result_err result ≡ of_case impatient self.entry k }
+    {
+        let step = self.policy.parent(k);
+        let (child, parent) = self.schemas(step);
+        refuse_if(
+            parent.patience < child.patience,
+            SealFault::Impatient {
+                child: step.child as usize,
+                parent: step.parent as usize,
+            },
+        )
+    }
+
+    /// The checks in their order.
+    fn first_fault(self) -> Result<(), SealFault>
+        ensures { result_err result ≡ of_case first_fault_spec self.entry }
+    {
+        first(self.survey.count(), |place| self.empty(place))?;
+        first(self.policy.role_count(), |role| self.misplaced(role))?;
+        first(self.policy.schema_count(), |schema| self.outside(schema))?;
+        self.first_overlap()?;
+        first(self.policy.parent_count(), |k| self.unlike(k))?;
+        first(self.policy.parent_count(), |k| self.impatient(k))
     }
 }
 
 /// The first fault of the policy over the plan that was surveyed.
-pub fn first_fault<'a>(survey: &'a Survey, policy: &'a Policy) -> Option<SealFault>
-    ensures kept { result ≡ first_fault_spec (kept survey.now) (says policy.now) }
-    ensures meant { (h : Hall) → Tied h survey.now → result ≡ first_fault_spec (sight_of h) (says policy.now) }
+pub fn first_fault<'a>(survey: &'a Survey, policy: &'a Policy) -> Result<(), SealFault>
+    ensures kept { result_err result ≡ first_fault_spec (kept survey.now) (says policy.now) }
+    ensures meant { (h : Hall) → Tied h survey.now → result_err result ≡ first_fault_spec (sight_of h) (says policy.now) }
 {
     Case { survey, policy }.first_fault()
 }

@@ -52,7 +52,7 @@ impl<P: Plan> Site<P> {
         }
         self.policy.read(words)?;
         let survey = Survey::of(&self.plan);
-        if let Some(fault) = first_fault(&survey, &self.policy) {
+        if let Err(fault) = first_fault(&survey, &self.policy) {
             self.policy.clear();
             return Err(fault);
         }

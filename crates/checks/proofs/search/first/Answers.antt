@@ -1,10 +1,12 @@
 -- `first`: the first number at which something is found ends the search.
-use Rattle.std.proofs.Common.{sym, ◌∙◌, arith}
-use Rattle.sets.proofs.Bounds.{first_more, first_here}
+use Rattle.std.proofs.Common.{◌≡◌, Some, sym, ◌∙◌, arith, rules}
+use Rattle.std.specs.Result.{result_err}
+use Rattle.sets.proofs.Bounds.{first_here}
 use Rattle.checks.proofs.search.first.Goals as goal
 
-pub loop-k-preserved : goal.loop-k-preserved
-loop-k-preserved g c = first_more (g.C.Check.finds c.args.check.now) c.loop-k.k c.loop-k.invariant (sym c.at.ensures ∙ c.in_default.is)
-
-pub returns-in-Some : goal.returns-in-Some
-returns-in-Some g c = sym (first_here (g.C.Check.finds c.args.check.now) c.loop-k.k c.args.n _ (omega arith) c.loop-k.invariant (sym c.at.ensures ∙ c.in-Some.is))
+pub returns-in_err-check : goal.returns-in_err-check
+returns-in_err-check g c finds h =
+    let e = c.in_err-check.field-0.0 in
+    let ends : result_err c.from_residual.result ≡ Some e = search rules in
+    let err : result_err c.check.result ≡ Some e = search rules in
+    ends ∙ sym (first_here finds c.loop-k.k c.args.n e (omega arith) (c.loop-k.invariant.1 finds h) (sym (h c.loop-k.k c.check.result (omega arith) c.check.ensures) ∙ err))

@@ -1,5 +1,6 @@
 -- `seal`: the words, the checks, and what is kept.
 use Rattle.std.proofs.Common.{◌≡◌, Some, None, Ok, sym, refl, ap, ◌∙◌, arith}
+use Rattle.std.specs.Result.{result_err}
 use Rattle.std.proofs.lemmas.Bool.{ltb-false}
 use Rattle.policy.specs.Policies.{says}
 use Rattle.policy.specs.Reading.{content_from}
@@ -11,8 +12,8 @@ use Rattle.site.proofs.Grounds.{same_ground}
 use Rattle.site.proofs.Sealings.{accepted_is, read_has_badges, outcome_is}
 use Rattle.site.proofs.site.Site.seal.Goals as goal
 
-pub returns-in-Some : goal.returns-in-Some
-returns-in-Some g c =
+pub returns-in-Err : goal.returns-in-Err
+returns-in-Err g c =
     let v = c.args.self.now in
     let h = g.P.Plan.hall v.plan in
     let ws = c.args.words.now in
@@ -20,7 +21,7 @@ returns-in-Some g c =
     let new = says c.read.new.self in
     let unsealed : old.badges ≡ 0 = omega (arith, ltb-false 0 old.badges (sym c.is_sealed.ensures ∙ c.if-is_sealed.false)) in
     let read : content_from ws ≡ Ok new = accepted_is (content_from ws) old new c.in_ok-read.ensures.answer c.read.ensures.after in
-    let is = outcome_is old h ws new (Some c.in-Some.fault) unsealed read (sym c.in-Some.is ∙ c.first_fault.ensures.meant h c.of-survey.ensures.tied) in
+    let is = outcome_is old h ws new (Some c.in-Err.fault) unsealed read (sym (ap result_err c.in-Err.is) ∙ c.first_fault.ensures.meant h c.of-survey.ensures.tied) in
     record {
       answer = sym (ap sealed_or is);
       plan = refl;
@@ -45,7 +46,7 @@ returns g c =
     let tied = c.of-survey.ensures.tied in
     let unsealed : old.badges ≡ 0 = omega (arith, ltb-false 0 old.badges (sym c.is_sealed.ensures ∙ c.if-is_sealed.false)) in
     let read : content_from ws ≡ Ok new = accepted_is (content_from ws) old new c.in_ok-read.ensures.answer c.read.ensures.after in
-    let is = outcome_is old h ws new None unsealed read (sym c.in_default.is ∙ c.first_fault.ensures.meant h tied) in
+    let is = outcome_is old h ws new None unsealed read (sym (ap result_err c.in_default.is) ∙ c.first_fault.ensures.meant h tied) in
     record {
       answer = sym (ap sealed_or is);
       plan = refl;

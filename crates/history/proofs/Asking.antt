@@ -1,12 +1,12 @@
 -- What asking answers.
-use Rattle.std.proofs.Common.{◌≡◌, ℕ, ◌<◌, true, false, ◌||◌, ltb, leb, length, Some, None, Option, refl, ⊎_elim}
+use Rattle.std.proofs.Common.{◌≡◌, ℕ, ◌<◌, true, false, ◌||◌, ltb, leb, length, Some, None, Ok, Option, refl, ⊎_elim}
 use Rattle.std.proofs.lemmas.Bool.{cases_Bool, and_parts, and_from, lt-leb, false≢true}
 use Rattle.sets.specs.Bounds.{lowest, some}
 use Rattle.sets.proofs.Bounds.{lowest_passes, some_here}
 use Rattle.sealing.specs.Ground.{Ground}
 use Rattle.sealing.specs.Located.{bears, where_at, held}
 use Rattle.calls.specs.declared.call.Event.TheVariants.{Ask}
-use Rattle.calls.specs.declared.call.Answer.TheVariants.{Granted}
+use Rattle.calls.specs.declared.call.Reply.TheVariants.{Granted}
 use Rattle.calls.specs.Standing.{Standing, session_count}
 use Rattle.history.specs.Questions.{at_position, is_enabled, is_patient, serves, serves_patient, grants}
 use Rattle.history.specs.Replies.{reply}
@@ -26,7 +26,7 @@ module _ (g : Ground) where
   enabled_patient st r h = patient_when st.position st.misses r h
 
   -- where nothing is wrong with badge, session and right, the lowest-numbered role that grants is named
-  pub granted_reply : (st : Standing) (b s operation object r : ℕ) → b < g.content.badges → s < session_count → st.opened s ≡ true → (ltb 15 operation || ltb 255 object) ≡ false → lowest (length g.content.roles) (grants g st s operation object) ≡ Some r → reply g st (call b (Ask s operation object)) ≡ Granted r
+  pub granted_reply : (st : Standing) (b s operation object r : ℕ) → b < g.content.badges → s < session_count → st.opened s ≡ true → (ltb 15 operation || ltb 255 object) ≡ false → lowest (length g.content.roles) (grants g st s operation object) ≡ Some r → reply g st (call b (Ask s operation object)) ≡ Ok (Granted r)
   granted_reply st b s operation object r known within opened right found =
       let n = length g.content.roles in
       let at = lowest_passes (grants g st s operation object) n r found in

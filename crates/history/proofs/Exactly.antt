@@ -1,5 +1,5 @@
 -- Asking grants exactly by the lowest-numbered active enabled role that has the right.
-use Rattle.std.proofs.Common.{◌≡◌, ℕ, ◌<◌, Bool, true, false, cond, ◌&&◌, ◌||◌, eqb, ltb, List, [], ◌∷◌, length, Some, None, Option, sym, refl, ap, ◌∙◌, subst, ⊎_elim, arith}
+use Rattle.std.proofs.Common.{◌≡◌, ℕ, ◌<◌, Bool, true, false, cond, ◌&&◌, ◌||◌, eqb, ltb, List, [], ◌∷◌, length, Some, None, Ok, Option, sym, refl, ap, ◌∙◌, subst, ⊎_elim, arith}
 use Rattle.std.proofs.lemmas.Bool.{cases_Bool, and_parts, and_from, le-ltb, ltb-true, eqb-true, or_from, false≢true}
 use Rattle.sets.specs.Bounds.{lowest}
 use Rattle.sets.proofs.Bounds.{lowest_passes}
@@ -10,8 +10,8 @@ use Rattle.sealing.specs.Ground.{Ground, ground_of}
 use Rattle.calls.specs.declared.call.Call.{Call}
 use Rattle.calls.specs.declared.call.Event.{Event}
 use Rattle.calls.specs.declared.call.Event.TheVariants.{Report, Miss, Open, Close, Activate, Drop, Where, Enabled, Roles, Ask}
-use Rattle.calls.specs.declared.call.Answer.{Answer}
-use Rattle.calls.specs.declared.call.Answer.TheVariants.{Granted}
+use Rattle.calls.specs.Answers.{Answer}
+use Rattle.calls.specs.declared.call.Reply.TheVariants.{Granted}
 use Rattle.calls.specs.declared.refusal.Refusal.{Refusal}
 use Rattle.calls.specs.Standing.{Standing, session_count, moved}
 use Rattle.history.specs.Questions.{is_enabled, may, serves, grants}
@@ -99,11 +99,11 @@ closed_empty g calls b s r shut =
     (λ (h : (after g calls b).active s r ≡ false). h)
     (cases_Bool ((after g calls b).active s r))
 
-refused_not : (o : Option Refusal) (a : Answer) (r : ℕ) → refused_or o a ≡ Granted r → a ≡ Granted r
+refused_not : (o : Option Refusal) (a : Answer) (r : ℕ) → refused_or o a ≡ Ok (Granted r) → a ≡ Ok (Granted r)
 refused_not None a r e = e
 refused_not (Some n) a r e = let z : ◌≡◌ {A = ℕ} 0 1 = cc in absurd (omega arith)
 
-granted_some : (o : Option ℕ) (r : ℕ) → granted_by o ≡ Granted r → o ≡ Some r
+granted_some : (o : Option ℕ) (r : ℕ) → granted_by o ≡ Ok (Granted r) → o ≡ Some r
 granted_some None r e = let z : ◌≡◌ {A = ℕ} 0 1 = cc in absurd (omega arith)
 granted_some (Some k) r e = cc
 

@@ -1,9 +1,8 @@
 -- How one call more keeps what is kept of each badge in agreement with the calls.
-use Rattle.std.proofs.Common.{◌≡◌, ℕ, Bool, true, false, cond, eqb, List, ◌∷◌, Some, None, Option, sym, refl, ap, ◌∙◌, ⊎_elim}
+use Rattle.std.proofs.Common.{◌≡◌, ℕ, Bool, true, false, cond, eqb, List, ◌∷◌, Some, None, Err, Option, sym, refl, ap, ◌∙◌, ⊎_elim}
 use Rattle.std.proofs.lemmas.Bool.{cases_Bool, eqb-true, cond-true, cond-false, cond_both}
 use Rattle.sealing.specs.Ground.{Ground}
 use Rattle.calls.specs.declared.call.Call.{Call}
-use Rattle.calls.specs.declared.call.Answer.TheVariants.{Refused}
 use Rattle.calls.specs.declared.refusal.Refusal.{Refusal}
 use Rattle.calls.specs.Standing.{Standing, moved}
 use Rattle.history.specs.Refusals.{refusal}
@@ -51,7 +50,7 @@ module _ (g : Ground) where
         (cases_Bool (eqb c.badge b))
 
     -- a refused call changes nothing
-    pub refused : (n : Refusal) → refusal g (kept c.badge) c ≡ Some n → ((b : ℕ) → kept' b ≡ kept b) → Follows g kept kept' c (Refused n)
+    pub refused : (n : Refusal) → refusal g (kept c.badge) c ≡ Some n → ((b : ℕ) → kept' b ≡ kept b) → Follows g kept kept' c (Err n)
     refused n holds same calls ok =
         let step = one_step (λ b. same b ∙ sym (cond_same (eqb c.badge b) (kept b)) ∙ settles (Some n) holds b) calls ok in
         (sym (ap (λ o. refused_or o (outcome g (kept c.badge) c.event)) holds) ∙ step.0, step.1)

@@ -5,7 +5,7 @@ use Rattle.sealing.specs.Ground.{Ground}
 use Rattle.calls.specs.declared.call.Call.{Call}
 use Rattle.calls.specs.declared.call.Event.{Event}
 use Rattle.calls.specs.declared.call.Event.TheVariants.{Report, Miss, Open, Close, Activate, Drop, Where, Enabled, Roles, Ask}
-use Rattle.calls.specs.declared.call.Answer.{Answer}
+use Rattle.calls.specs.Answers.{Answer}
 use Rattle.calls.specs.declared.refusal.Refusal.{Refusal}
 use Rattle.calls.specs.Standing.{Standing, most_misses}
 use Rattle.history.specs.Refusals.{refusal}

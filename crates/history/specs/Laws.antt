@@ -9,8 +9,8 @@ use Rattle.sealing.specs.Ground.{Ground, ground_of}
 use Rattle.calls.specs.declared.call.Call.{Call}
 use Rattle.calls.specs.declared.call.Event.{Event}
 use Rattle.calls.specs.declared.call.Event.TheVariants.{Report, Miss, Open, Close, Activate, Drop, Where, Enabled, Roles, Ask}
-use Rattle.calls.specs.declared.call.Answer.{Answer}
-use Rattle.calls.specs.declared.call.Answer.TheVariants.{Granted}
+use Rattle.calls.specs.Answers.{Answer}
+use Rattle.calls.specs.declared.call.Reply.TheVariants.{Granted}
 use Rattle.history.specs.Questions.{is_enabled, may}
 use Rattle.history.specs.History.{accepted, after, answer, answers_after}
 
@@ -64,8 +64,8 @@ pub record LowestServes (g : Ground) (calls : List Call) (b s operation object r
 
 -- asking grants by role r exactly when it is the lowest-numbered active enabled role that has the right
 pub record Exactly (g : Ground) (calls : List Call) (b s operation object r : ℕ) : Type 0 where
-  pub only_if : answer g calls (call b (Ask s operation object)) ≡ Granted r → LowestServes g calls b s operation object r
-  pub when : LowestServes g calls b s operation object r → answer g calls (call b (Ask s operation object)) ≡ Granted r
+  pub only_if : answer g calls (call b (Ask s operation object)) ≡ Ok (Granted r) → LowestServes g calls b s operation object r
+  pub when : LowestServes g calls b s operation object r → answer g calls (call b (Ask s operation object)) ≡ Ok (Granted r)
 
 abbrev pub GrantsExactly : Type 0
 GrantsExactly = (h : Hall) (c : Content) (calls : List Call) (b s operation object r : ℕ) → Exactly (ground_of h c) calls b s operation object r

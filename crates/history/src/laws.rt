@@ -4,31 +4,23 @@ ghost use Rattle.history.specs.Laws.{ActiveMeans, ClosedEmpty, EnabledAbove, Gra
 
 /// A role is active exactly when its activation was accepted there and no accepted drop of it or close came after; and
 /// none is active in a session that is not open.
-pub fn activity_stands() -> u8
+pub fn activity_stands()
     ensures means { ActiveMeans }
     ensures empty { ClosedEmpty }
-{
-    0
-}
+{}
 
 /// Asking grants exactly when a role active there and enabled has the right, and names the lowest-numbered one.
-pub fn granting_stands() -> u8
+pub fn granting_stands()
     ensures { GrantsExactly }
-{
-    0
-}
+{}
 
 /// A badge enabled in a role is enabled in every ancestor of it.
-pub fn ancestors_stand() -> u8
+pub fn ancestors_stand()
     ensures { EnabledAbove }
-{
-    0
-}
+{}
 
 /// Striking out the calls that name other badges changes no answer of a badge.
-pub fn striking_stands() -> u8
+pub fn striking_stands()
     ensures one { Struck }
     ensures runs { StruckRuns }
-{
-    0
-}
+{}

@@ -1,5 +1,11 @@
 -- Rising keys, and the search by key, over any record type and any order of its keys.
 use Rattle.std.specs.Prelude.{ℕ, ◌+◌, Bool, true, false, cond, not, ◌&&◌, ◌||◌, List, [], ◌∷◌, ◌++◌, length, Some, None, Option, nat_lt}
+use Rattle.std.specs.declared.cmp.Ordering.{Ordering}
+use Rattle.std.specs.Ordering.{is_lt}
+
+-- whether one key is below another
+abbrev pub below : {K : Type 0} → (K → K → Ordering) → K → K → Bool
+below cmp a b = is_lt (cmp a b)
 
 -- each key is above the one before
 abbrev pub rising : {R K : Type 0} → (K → K → Bool) → (R → K) → List R → Bool

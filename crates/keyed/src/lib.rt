@@ -2,7 +2,9 @@
 #![tactic(auto)]
 
 pub mod keys;
+pub mod models;
 pub mod pair;
+pub mod rising;
 pub mod shelf;
 pub mod slices;
 pub mod triple;

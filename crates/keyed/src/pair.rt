@@ -1,9 +1,8 @@
 //! Keys of two fields.
 
-ghost use Rattle.keyed.specs.Models.{pair_less};
 ghost use Rattle.std.proofs.Common.{rules};
 
-use super::keys::KeyOrder;
+use super::keys::KeyOrd;
 
 /// A key of two fields, of which `high` counts first.
 #[derive(Clone, Copy, PartialEq, Eq, PartialOrd, Ord)]
@@ -12,16 +11,6 @@ pub struct Pair {
     pub low: u8,
 }
 
-impl KeyOrder for Pair {
-    ghost less = { pair_less };
-
-    ghost irreflexive = { Prim.search rules };
-
-    ghost transitive = { Prim.search rules };
-
-    ghost total = { Prim.search rules };
-
-    fn below(&self, other: &Pair) -> bool {
-        *self < *other
-    }
+impl KeyOrd for Pair {
+    ghost exact = { Prim.search rules };
 }

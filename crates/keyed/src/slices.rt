@@ -1,32 +1,26 @@
 //! The rising check and the search by key, over slices of records.
 
-ghost use Rattle.std.specs.Prelude.{◌≡◌, ℕ, ◌+◌, ◌<◌, ◌≤◌, Bool, true, false, length, IfSome};
+ghost use Rattle.std.specs.Prelude.{◌≡◌, ◌<◌, true, length, IfSome};
 ghost use Rattle.std.specs.List.{HoldsAt};
-ghost use Rattle.keyed.specs.Orders.{rising, follows, find_of, alike};
+ghost use Rattle.keyed.specs.Orders.{below, rising, follows, find_of};
 
-use super::keys::{KeyOrder, Keyed};
+use super::keys::Keyed;
 
 /// Whether a record with this key may follow these: its key is above the last one's.
 pub fn may_follow<R: Keyed>(records: &[R], key: &R::Key) -> bool
-    ensures { result ≡ follows R.Key.KeyOrder.less R.keyed records.now key.now }
+    ensures { result ≡ follows (below R.Key.cmp) R.keyed records.now key.now }
 {
     match records {
         [] => true,
-        [.., last] => last.key().below(key),
+        [.., last] => last.key() < *key,
     }
 }
 
 /// Whether each key is above the one before.
 pub fn all_rise<R: Keyed>(records: &[R]) -> bool
-    ensures { result ≡ rising R.Key.KeyOrder.less R.keyed records.now }
+    ensures { result ≡ rising (below R.Key.cmp) R.keyed records.now }
 {
-    for i in 1..records.len() {
-        let rises = records[i - 1].key().below(&records[i].key());
-        if !rises {
-            return false;
-        }
-    }
-    true
+    records.is_sorted_by(|one, next| one.key() < next.key())
 }
 
 /// Where the record with this key stands, found by halving. If the keys do not rise, the answer is either none or a
@@ -34,20 +28,9 @@ pub fn all_rise<R: Keyed>(records: &[R]) -> bool
 pub fn find<R: Keyed>(records: &[R], key: &R::Key) -> Option<usize>
     ensures within { IfSome result (λ i. i < length records.now) }
     ensures same { IfSome result (λ i. HoldsAt (λ x. R.keyed x ≡ key.now) records.now i) }
-    ensures value { rising R.Key.KeyOrder.less R.keyed records.now ≡ true → result ≡ find_of R.Key.KeyOrder.less R.keyed key.now records.now }
+    ensures value { rising (below R.Key.cmp) R.keyed records.now ≡ true → result ≡ find_of (below R.Key.cmp) R.keyed key.now records.now }
 {
-    let mut low = 0usize;
-    let mut high = records.len();
-    while low < high {
-        let mid = low + (high - low) / 2;
-        let here = records[mid].key();
-        if here.below(key) {
-            low = mid + 1;
-        } else if key.below(&here) {
-            high = mid;
-        } else {
-            return Some(mid);
-        }
-    }
-    None
+    records
+        .binary_search_by_key(key, |record| record.key())
+        .ok()
 }

@@ -1,9 +1,8 @@
 //! Keys of three fields.
 
-ghost use Rattle.keyed.specs.Models.{triple_less};
 ghost use Rattle.std.proofs.Common.{rules};
 
-use super::keys::KeyOrder;
+use super::keys::KeyOrd;
 
 /// A key of three fields, of which `high` counts first and `low` last.
 #[derive(Clone, Copy, PartialEq, Eq, PartialOrd, Ord)]
@@ -13,16 +12,6 @@ pub struct Triple {
     pub low: u8,
 }
 
-impl KeyOrder for Triple {
-    ghost less = { triple_less };
-
-    ghost irreflexive = { Prim.search rules };
-
-    ghost transitive = { Prim.search rules };
-
-    ghost total = { Prim.search rules };
-
-    fn below(&self, other: &Triple) -> bool {
-        *self < *other
-    }
+impl KeyOrd for Triple {
+    ghost exact = { Prim.search rules };
 }

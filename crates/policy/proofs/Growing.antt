@@ -3,7 +3,7 @@ use Rattle.std.proofs.Common.{◌≡◌, ℕ, ◌<◌, ◌≤◌, Bool, true, lt
 use Rattle.std.proofs.lemmas.List.{length_push, get_or_push, get_or_append_left}
 use Rattle.std.proofs.lemmas.Bool.{cases_lt, cond-true, and_from}
 use Rattle.keyed.specs.Orders.{placed, rising, follows}
-use Rattle.keyed.proofs.Rising.{rising_push}
+use Rattle.keyed.proofs.Orders.{rising_push}
 use Rattle.records.specs.declared.kinds.Parent.{Parent}
 use Rattle.policy.specs.Facts.{Below, Upward}
 

@@ -1,10 +1,8 @@
 //! How records are put on a shelf and looked up.
 
-ghost use Rattle.std.specs.Prelude.{◌≡◌, true, [], length, IfOk, nat_lt, slice_index_or};
-ghost use Rattle.keyed.specs.Orders.{follows, has as has_key, placed, rising};
+ghost use Rattle.std.specs.Prelude.{◌≡◌, [], length, IfOk, nat_lt, slice_get};
+ghost use Rattle.keyed.specs.Orders.{placed};
 
-use super::super::keys::{KeyOrder, Keyed};
-use super::super::slices::{find, may_follow};
 use super::Shelf;
 use std::alloc::{AllocError, Global};
 
@@ -56,31 +54,10 @@ impl<R: Drop, const MOST: usize> Shelf<R, MOST> {
 }
 
 impl<R: Copy + Drop, const MOST: usize> Shelf<R, MOST> {
-    /// Record `k`, or the other one if there are no more than `k` records.
-    pub fn at_or(&self, k: usize, other: R) -> R
-        ensures { result ≡ slice_index_or self.now.records.items k other }
+    /// Record `k`, if there are more than `k` records.
+    pub fn get(&self, k: usize) -> Option<R>
+        ensures { result ≡ slice_get self.now.records.items k }
     {
-        if k < self.len() {
-            self.records[k]
-        } else {
-            other
-        }
-    }
-}
-
-impl<R: Keyed + Drop, const MOST: usize> Shelf<R, MOST> {
-    /// Whether a record's key is above the last one's.
-    pub fn rises(&self, record: &R) -> bool
-        ensures { result ≡ follows R.Key.KeyOrder.less R.keyed self.now.records.items (R.keyed «record».now) }
-    {
-        may_follow(&self.records, &record.key())
-    }
-
-    /// Whether a record has this key. If the keys do not rise, one that has it may be missed.
-    pub fn has(&self, key: &R::Key) -> bool
-        ensures sure { result ≡ true → has_key R.Key.KeyOrder.less R.keyed key.now self.now.records.items ≡ true }
-        ensures value { rising R.Key.KeyOrder.less R.keyed self.now.records.items ≡ true → result ≡ has_key R.Key.KeyOrder.less R.keyed key.now self.now.records.items }
-    {
-        find(&self.records, key).is_some()
+        self.records.get(k).copied()
     }
 }

@@ -1,26 +1,15 @@
-use Rattle.std.proofs.Common.{◌≡◌, ◌-◌, true, false, drop, sym, ap, ◌∙◌, arith, length-drop}
-use Rattle.keyed.proofs.Rising.{rises_at, falls_at, short_rises}
+use Rattle.std.proofs.Common.{◌≡◌, rules, ◌∙◌}
+use Rattle.std.proofs.lemmas.List.Sorted.{answers_always}
+use Rattle.std.specs.Ordering.{partial_lt}
+use Rattle.keyed.specs.Orders.{below}
+use Rattle.keyed.proofs.Orders.{rising_answer, less_below}
 use Rattle.keyed.proofs.slices.all_rise.Goals as goal
-
-pub returns-then-not-rises : goal.returns-then-not-rises
-returns-then-not-rises g c =
-    let less = g.R.Key.KeyOrder.less in
-    let key = g.R.Keyed.keyed in
-    let x = c.index-records-i.result in
-    let y = c.index-records-i-in-loop-i.result in
-    let e : less (key x) (key y) ≡ false = ap (λ a. less a (key y)) (sym c.key.ensures) ∙ ap (less c.key.result) (sym c.key-in-loop-i.ensures) ∙ sym c.below-rises.ensures ∙ c.if-not-rises.true in
-    sym (falls_at less key c.args.records.now c.loop-i.i x y (omega arith) c.loop-i-test.true c.index-records-i.is c.index-records-i-in-loop-i.is e) ∙ c.loop-i.invariant
-
-pub loop-i-preserved : goal.loop-i-preserved
-loop-i-preserved g c =
-    let less = g.R.Key.KeyOrder.less in
-    let key = g.R.Keyed.keyed in
-    let x = c.index-records-i.result in
-    let y = c.index-records-i-in-loop-i.result in
-    let e : less (key x) (key y) ≡ true = ap (λ a. less a (key y)) (sym c.key.ensures) ∙ ap (less c.key.result) (sym c.key-in-loop-i.ensures) ∙ sym c.below-rises.ensures ∙ c.if-not-rises.false in
-    sym (rises_at less key c.args.records.now c.loop-i.i x y (omega arith) c.loop-i-test.true c.index-records-i.is c.index-records-i-in-loop-i.is e) ∙ c.loop-i.invariant
 
 pub returns : goal.returns
 returns g c =
-    let xs = c.args.records.now in
-    sym (short_rises g.R.Key.KeyOrder.less g.R.Keyed.keyed (drop (c.loop-i.i - 1) xs) (simp length-drop (omega arith))) ∙ c.loop-i.invariant
+    let less = below g.R.Key.Ord.cmp in
+    let key = g.R.Keyed.keyed in
+    rising_answer less key c.args.records.now c.is_sorted_by.result
+    (c.is_sorted_by.ensures.cases (λ x y. less (key x) (key y)) (answers_always _ _ _ (λ f a r f' called.
+    let e : r ≡ partial_lt g.R.Key.PartialOrd.partial_cmp (key a.0.now) (key a.1.0.now) = search rules in
+    e ∙ less_below g.R.Key.Ord.cmp g.R.Key.PartialOrd.partial_cmp g.met.R.Key.Ord.matches_partial_cmp _ _)))

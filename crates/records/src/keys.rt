@@ -3,7 +3,7 @@
 ghost use Rattle.records.specs.Keys.{assignment_key, parent_key, role_key, role_permission_key, schema_permission_key};
 
 use super::kinds::{Assignment, Parent, Role, RolePermission, SchemaPermission};
-use keyed::keys::{KeyOrder, Keyed};
+use keyed::keys::Keyed;
 use keyed::pair::Pair;
 use keyed::triple::Triple;
 

@@ -2,7 +2,6 @@
 
 #![tactic(auto)]
 
-pub mod badges;
 pub mod keys;
 pub mod kinds;
 pub mod words;

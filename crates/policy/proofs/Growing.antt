@@ -1,9 +1,10 @@
 -- What holds of a list of records, and of the list with one more.
-use Rattle.std.proofs.Common.{◌≡◌, ℕ, ◌<◌, ◌≤◌, Bool, true, ltb, List, [], ◌∷◌, ◌++◌, length, get_or, sym, ap, ◌∙◌, subst, ⊎_elim, arith}
+use Rattle.std.proofs.Common.{◌≡◌, ℕ, zero, suc, ◌<◌, ◌≤◌, Bool, true, ltb, List, [], ◌∷◌, ◌++◌, length, get_or, sym, ap, ◌∙◌, subst, ⊎_elim, arith}
 use Rattle.std.proofs.lemmas.List.{length_push, get_or_push, get_or_append_left}
-use Rattle.std.proofs.lemmas.Bool.{cases_lt, cond-true, and_from}
-use Rattle.keyed.specs.Orders.{placed, rising, follows}
-use Rattle.keyed.proofs.Orders.{rising_push}
+use Rattle.std.proofs.lemmas.Bool.{cases_lt, cond-true}
+use Rattle.std.specs.Prelude.{slice_get, slice_index_or}
+use Rattle.std.specs.Option.{UnwrapsOrElse}
+use Rattle.keyed.specs.Orders.{placed, follows}
 use Rattle.records.specs.declared.kinds.Parent.{Parent}
 use Rattle.policy.specs.Facts.{Below, Upward}
 
@@ -27,11 +28,18 @@ module _ {R : Type 0} where
     pub below_push : (f : R → ℕ) (n : ℕ) → Below f n xs → f x < n → Below f n ys
     below_push f n h p = each_push (λ z. f z < n) h p
 
-    pub rises_push : {K : Type 0} (less : K → K → Bool) (key : R → K) → rising less key xs ≡ true → follows less key xs (key x) ≡ true → rising less key ys ≡ true
-    rises_push less key up next = ap (rising less key) e ∙ rising_push less key xs x ∙ and_from _ _ up next
-
   pub below_more : (f : R → ℕ) (n m : ℕ) (xs : List R) → n ≤ m → Below f n xs → Below f m xs
   below_more f n m xs le h k d l = let b = h k d l in omega arith
 
 pub upward_push : (xs ys : List Parent) (x : Parent) → ys ≡ xs ++ x ∷ [] → Upward xs → x.parent < x.child → Upward ys
 upward_push xs ys x e h p = each_push xs ys x e (λ z. z.parent < z.child) h p
+
+-- what follows in one order follows in the same order otherwise told
+pub follows_same : {R K : Type 0} (less told : K → K → Bool) (key : R → K) (xs : List R) (x y : R) → less ≡ told → x ≡ y → follows less key xs (key x) ≡ follows told key xs (key y)
+follows_same less told key xs x y order same = ap (λ l. follows l key xs (key x)) order ∙ ap (λ z. follows told key xs (key z)) same
+
+-- a record by number, or the default one
+pub record_or : {R : Type 0} (xs : List R) (k : ℕ) (IsDefault : R → Type 0) (r d : R) → (IsDefault r → r ≡ d) → UnwrapsOrElse (slice_get xs k) IsDefault r → r ≡ slice_index_or xs k d
+record_or [] k IsDefault r d same h = same h
+record_or (x ∷ xs) zero IsDefault r d same h = h
+record_or (x ∷ xs) (suc k) IsDefault r d same h = record_or xs k IsDefault r d same h

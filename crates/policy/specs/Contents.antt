@@ -1,5 +1,5 @@
 -- What a policy says, as plain lists.
-use Rattle.std.specs.Prelude.{ℕ, Bool, List, [], vec_items, slice_index_or}
+use Rattle.std.specs.Prelude.{ℕ, Bool, List, [], length, vec_items, slice_index_or}
 use Rattle.keyed.specs.Orders.{has}
 use Rattle.keyed.specs.Models.{pair_less, triple_less}
 use Rattle.records.specs.declared.kinds.Schema.{Schema}
@@ -8,6 +8,7 @@ use Rattle.records.specs.declared.kinds.Role.{Role}
 use Rattle.records.specs.declared.kinds.SchemaPermission.{SchemaPermission}
 use Rattle.records.specs.declared.kinds.RolePermission.{RolePermission}
 use Rattle.records.specs.declared.kinds.Assignment.{Assignment}
+use Rattle.records.specs.declared.words.Counts.{Counts}
 use Rattle.records.specs.Keys.{schema_permission_key, role_permission_key, assignment_key}
 use Rattle.policy.specs.declared.charter.Charter.{Charter}
 
@@ -29,12 +30,16 @@ abbrev pub content_of : Charter → Content
 content_of c = record {
   badges = c.badges;
   schemas = vec_items c.schemas.records;
-  parents = vec_items c.parents.records;
-  roles = vec_items c.roles.records;
-  schema_permissions = vec_items c.schema_permissions.records;
-  role_permissions = vec_items c.role_permissions.records;
-  assignments = vec_items c.assignments.records;
+  parents = vec_items c.parents.shelf.records;
+  roles = vec_items c.roles.shelf.records;
+  schema_permissions = vec_items c.schema_permissions.shelf.records;
+  role_permissions = vec_items c.role_permissions.shelf.records;
+  assignments = vec_items c.assignments.shelf.records;
 }
+
+-- how much it has of what records refer to
+abbrev pub counts_of : Content → Counts
+counts_of c = record { badges = c.badges; schemas = length c.schemas; roles = length c.roles }
 
 -- schema k, zeros if there is none
 abbrev pub schema_at : Content → ℕ → Schema

@@ -2,16 +2,18 @@
 
 ghost use Rattle.std.specs.Prelude.{◌≡◌, IfOk};
 ghost use Rattle.wordlist.specs.Fields.{kind_of};
+ghost use Rattle.wordlist.specs.Kinds.{number_of};
 ghost use Rattle.wordlist.specs.Reading.{passing};
-ghost use Rattle.policy.specs.Contents.{Content, content_of, none};
+ghost use Rattle.policy.specs.Contents.{Content, content_of, counts_of, none};
 ghost use Rattle.policy.specs.Rules.{least_kind, policy_rules, rises_as};
 
 use super::Charter;
+use keyed::rising::Rising;
 use keyed::shelf::Shelf;
-use records::badges::{badges_of, sound_badges};
-use records::kinds::{Assignment, Parent, Role, RolePermission, Schema, SchemaPermission};
+use records::kinds::{Assignment, Badges, Parent, Role, RolePermission, Schema, SchemaPermission};
+use records::words::{Counts, Record};
 use std::alloc::{AllocError, Global};
-use wordlist::fields::kind;
+use wordlist::kinds::Kind;
 use wordlist::list::WordList;
 
 impl Charter {
@@ -19,20 +21,14 @@ impl Charter {
     pub(crate) fn new(heap: Global) -> Result<Charter, AllocError>
         ensures { IfOk result (λ c. content_of c ≡ none) }
     {
-        let schemas = Shelf::new(heap)?;
-        let parents = Shelf::new(heap)?;
-        let roles = Shelf::new(heap)?;
-        let schema_permissions = Shelf::new(heap)?;
-        let role_permissions = Shelf::new(heap)?;
-        let assignments = Shelf::new(heap)?;
         Ok(Charter {
             badges: 0,
-            schemas,
-            parents,
-            roles,
-            schema_permissions,
-            role_permissions,
-            assignments,
+            schemas: Shelf::new(heap)?,
+            parents: Rising::new(heap)?,
+            roles: Rising::new(heap)?,
+            schema_permissions: Rising::new(heap)?,
+            role_permissions: Rising::new(heap)?,
+            assignments: Rising::new(heap)?,
         })
     }
 
@@ -49,22 +45,33 @@ impl Charter {
         self.badges = 0;
     }
 
-    /// The least kind that may stand next, after the badges: kinds never fall.
-    fn least_kind(&self) -> u32
-        ensures { result ≡ least_kind (content_of self.now) }
+    /// How much was read of what records refer to.
+    fn counts(&self) -> Counts
+        ensures { result ≡ counts_of (content_of self.now) }
     {
-        if 0 < self.assignments.len() {
-            13
-        } else if 0 < self.role_permissions.len() {
-            12
-        } else if 0 < self.schema_permissions.len() {
-            11
-        } else if 0 < self.roles.len() {
-            10
-        } else if 0 < self.parents.len() {
-            9
+        Counts {
+            badges: self.badges,
+            schemas: self.schemas.len(),
+            roles: self.roles.shelf().len(),
+        }
+    }
+
+    /// The least kind that may stand next, after the badges: kinds never fall.
+    fn least_kind(&self) -> Kind
+        ensures { number_of result ≡ least_kind (content_of self.now) }
+    {
+        if 0 < self.assignments.shelf().len() {
+            Kind::Assignment
+        } else if 0 < self.role_permissions.shelf().len() {
+            Kind::RolePermission
+        } else if 0 < self.schema_permissions.shelf().len() {
+            Kind::SchemaPermission
+        } else if 0 < self.roles.shelf().len() {
+            Kind::Role
+        } else if 0 < self.parents.shelf().len() {
+            Kind::Parent
         } else {
-            8
+            Kind::Schema
         }
     }
 
@@ -72,13 +79,15 @@ impl Charter {
     fn rises(&self, word: u32) -> bool
         ensures { result ≡ rises_as (kind_of word) (content_of self.now) word }
     {
-        match kind(word) {
-            8 => true,
-            9 => self.parents.rises(&Parent::of(word)),
-            10 => self.roles.rises(&Role::of(word)),
-            11 => self.schema_permissions.rises(&SchemaPermission::of(word)),
-            12 => self.role_permissions.rises(&RolePermission::of(word)),
-            13 => self.assignments.rises(&Assignment::of(word)),
+        match Kind::of(word) {
+            Some(Kind::Schema) => true,
+            Some(Kind::Parent) => self.parents.rises(&Parent::from(word)),
+            Some(Kind::Role) => self.roles.rises(&Role::from(word)),
+            Some(Kind::SchemaPermission) => self
+                .schema_permissions
+                .rises(&SchemaPermission::from(word)),
+            Some(Kind::RolePermission) => self.role_permissions.rises(&RolePermission::from(word)),
+            Some(Kind::Assignment) => self.assignments.rises(&Assignment::from(word)),
             _ => false,
         }
     }
@@ -99,37 +108,44 @@ impl WordList for Charter {
     ghost state = { content_of };
 
     fn belongs(&self, kind: u32) -> bool {
-        7 <= kind && kind <= 13
+        Kind::Badges.number() <= kind && kind <= Kind::Assignment.number()
     }
 
     fn in_turn(&self, word: u32) -> bool {
+        let Some(kind) = Kind::of(word) else {
+            return false;
+        };
         if self.badges == 0 {
-            return kind(word) == 7;
+            return kind == Kind::Badges;
         }
-        self.least_kind() <= kind(word) && self.rises(word)
+        self.least_kind() <= kind && self.rises(word)
     }
 
     fn has_room(&self, word: u32) -> bool {
-        match kind(word) {
-            8 => self.schemas.has_room(),
-            9 => self.parents.has_room(),
-            10 => self.roles.has_room(),
-            11 => self.schema_permissions.has_room(),
-            12 => self.role_permissions.has_room(),
-            13 => self.assignments.has_room(),
+        match Kind::of(word) {
+            Some(Kind::Schema) => self.schemas.has_room(),
+            Some(Kind::Parent) => self.parents.shelf().has_room(),
+            Some(Kind::Role) => self.roles.shelf().has_room(),
+            Some(Kind::SchemaPermission) => self.schema_permissions.shelf().has_room(),
+            Some(Kind::RolePermission) => self.role_permissions.shelf().has_room(),
+            Some(Kind::Assignment) => self.assignments.shelf().has_room(),
             _ => true,
         }
     }
 
     fn is_sound(&self, word: u32) -> bool {
-        match kind(word) {
-            8 => Schema::is_sound(word),
-            9 => Parent::is_sound(word, self.schemas.len()),
-            10 => Role::is_sound(word, self.schemas.len()),
-            11 => SchemaPermission::is_sound(word, self.schemas.len()),
-            12 => RolePermission::is_sound(word, self.roles.len()),
-            13 => Assignment::is_sound(word, self.roles.len(), self.badges),
-            _ => sound_badges(word),
+        let counts = self.counts();
+        let Some(kind) = Kind::of(word) else {
+            return Badges::is_sound(word, &counts);
+        };
+        match kind {
+            Kind::Schema => Schema::is_sound(word, &counts),
+            Kind::Parent => Parent::is_sound(word, &counts),
+            Kind::Role => Role::is_sound(word, &counts),
+            Kind::SchemaPermission => SchemaPermission::is_sound(word, &counts),
+            Kind::RolePermission => RolePermission::is_sound(word, &counts),
+            Kind::Assignment => Assignment::is_sound(word, &counts),
+            _ => Badges::is_sound(word, &counts),
         }
     }
 
@@ -137,14 +153,17 @@ impl WordList for Charter {
         if !self.passes(word) {
             return;
         }
-        match kind(word) {
-            8 => self.schemas.put(Schema::of(word)),
-            9 => self.parents.put(Parent::of(word)),
-            10 => self.roles.put(Role::of(word)),
-            11 => self.schema_permissions.put(SchemaPermission::of(word)),
-            12 => self.role_permissions.put(RolePermission::of(word)),
-            13 => self.assignments.put(Assignment::of(word)),
-            _ => self.badges = badges_of(word),
+        let Some(kind) = Kind::of(word) else {
+            return;
+        };
+        match kind {
+            Kind::Schema => self.schemas.put(Schema::from(word)),
+            Kind::Parent => self.parents.put(Parent::from(word)),
+            Kind::Role => self.roles.put(Role::from(word)),
+            Kind::SchemaPermission => self.schema_permissions.put(SchemaPermission::from(word)),
+            Kind::RolePermission => self.role_permissions.put(RolePermission::from(word)),
+            Kind::Assignment => self.assignments.put(Assignment::from(word)),
+            _ => self.badges = Badges::from(word).count,
         }
     }
 

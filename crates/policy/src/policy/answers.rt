@@ -29,75 +29,56 @@ impl Policy {
     pub fn parent_count(&self) -> usize
         ensures { result ≡ length (says self.now).parents }
     {
-        self.kept.parents.len()
+        self.kept.parents.shelf().len()
     }
 
     /// How many roles there are.
     pub fn role_count(&self) -> usize
         ensures { result ≡ length (says self.now).roles }
     {
-        self.kept.roles.len()
+        self.kept.roles.shelf().len()
     }
 
     /// Schema `k`.
     pub fn schema(&self, k: usize) -> Schema
         ensures { result ≡ schema_at (says self.now) k }
     {
-        self.kept.schemas.at_or(
-            k,
-            Schema {
-                extent: 0,
-                logic: 0,
-                patience: 0,
-            },
-        )
+        self.kept.schemas.get(k).unwrap_or_default()
     }
 
     /// Parent record `k`, in the order of (child, parent).
     pub fn parent(&self, k: usize) -> Parent
         ensures { result ≡ parent_at (says self.now) k }
     {
-        self.kept.parents.at_or(
-            k,
-            Parent {
-                parent: 0,
-                child: 0,
-            },
-        )
+        self.kept.parents.shelf().get(k).unwrap_or_default()
     }
 
     /// Role `k`.
     pub fn role(&self, k: usize) -> Role
         ensures { result ≡ role_at (says self.now) k }
     {
-        self.kept.roles.at_or(
-            k,
-            Role {
-                extent: 0,
-                schema: 0,
-            },
-        )
+        self.kept.roles.shelf().get(k).unwrap_or_default()
     }
 
     /// The schema permissions, in the order of (schema, operation, object).
     pub fn schema_permissions(&self) -> &[SchemaPermission]
         ensures { result.now ≡ (says self.now).schema_permissions }
     {
-        self.kept.schema_permissions.records()
+        self.kept.schema_permissions.shelf().records()
     }
 
     /// The role permissions, in the order of (role, operation, object).
     pub fn role_permissions(&self) -> &[RolePermission]
         ensures { result.now ≡ (says self.now).role_permissions }
     {
-        self.kept.role_permissions.records()
+        self.kept.role_permissions.shelf().records()
     }
 
     /// The assignments, in the order of (badge, role).
     pub fn assignments(&self) -> &[Assignment]
         ensures { result.now ≡ (says self.now).assignments }
     {
-        self.kept.assignments.records()
+        self.kept.assignments.shelf().records()
     }
 
     /// Whether the roles of a schema are permitted an operation on an object.

@@ -1,3 +1,4 @@
+use Rattle.policy.proofs.Standing.{parents_rise}
 -- `closure`: one record more, and the end.
 use Rattle.std.proofs.Common.{arith, length-set}
 use Rattle.policy.specs.Policies.{says}
@@ -9,7 +10,7 @@ pub loop-k-preserved : goal.loop-k-preserved
 loop-k-preserved c =
     let p = c.args.policy.now in (
       simp length-set c.loop-k.invariant.0,
-      closed_by (says p) p.kept.upward p.kept.parents_rise c.loop-k.k c.loop-k.rows c.or.result c.parent-step.result c.parent-step.ensures (omega arith) c.loop-k.invariant.0 c.loop-k.invariant.1 (child_in p c.loop-k.k (omega arith)) c.or.ensures,
+      closed_by (says p) p.kept.upward (parents_rise p.kept) c.loop-k.k c.loop-k.rows c.or.result c.parent-step.result c.parent-step.ensures (omega arith) c.loop-k.invariant.0 c.loop-k.invariant.1 (child_in p c.loop-k.k (omega arith)) c.or.ensures,
     )
 
 pub returns : goal.returns

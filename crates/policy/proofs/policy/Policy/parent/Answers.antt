@@ -1,0 +1,6 @@
+use Rattle.std.proofs.Common.{vec_items, rules}
+use Rattle.policy.proofs.Growing.{record_or}
+use Rattle.policy.proofs.policy.Policy.parent.Goals as goal
+
+pub returns : goal.returns
+returns c = record_or (vec_items c.args.self.now.kept.parents.shelf.records) c.args.k _ c.unwrap_or_default.result (record { parent = 0; child = 0 }) (λ p. search rules) (rw (c.get.ensures, c.shelf.ensures) at c.unwrap_or_default.ensures)

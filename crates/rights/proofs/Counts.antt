@@ -8,7 +8,7 @@ pub schemas_few : (p : Policy) → length (says p).schemas ≤ 32
 schemas_few p = omega (arith, p.kept.schemas.few, p.kept.schemas.records.ok.0)
 
 pub roles_few : (p : Policy) → length (says p).roles ≤ 64
-roles_few p = omega (arith, p.kept.roles.few, p.kept.roles.records.ok.0)
+roles_few p = omega (arith, p.kept.roles.shelf.few, p.kept.roles.shelf.records.ok.0)
 
 -- a child is one of 32
 pub child_in : (p : Policy) (k : ℕ) → k < length (says p).parents → (parent_at (says p) k).child < 32

@@ -1,6 +1,6 @@
 -- Tables that are right give the ancestors.
-use Rattle.std.proofs.Common.{◌≡◌, ℕ, ◌<◌, ◌≤◌, Bool, true, false, ◌&&◌, ltb, length, sym, ap, ◌∙◌, ⊎_elim, arith}
-use Rattle.std.proofs.lemmas.Bool.{cases_Bool, cases_lt, and_parts, and_left, and_right, ltb-true, lt-ltb, le-ltb}
+use Rattle.std.proofs.Common.{◌≡◌, ℕ, ◌<◌, ◌≤◌, Bool, true, false, ◌&&◌, ltb, length, sym, ap, ◌∙◌, ⊎_elim}
+use Rattle.std.proofs.lemmas.Bool.{cases_Bool, and_parts, and_left, and_right, ltb-true, le-ltb}
 use Rattle.policy.specs.Contents.{Content}
 use Rattle.rights.specs.Ancestors.{by_schema, by_extent, ancestor_by}
 
@@ -30,16 +30,3 @@ module _ (c : Content) (f g : ℕ → ℕ → Bool) where
   -- and it has none
   pub none_above : (r a : ℕ) → length c.roles ≤ r → ancestor_by f g c r a ≡ false
   none_above r a l = and_left _ _ (and_left (ltb r (length c.roles)) _ (le-ltb r (length c.roles) l))
-
-  -- with at most 64 roles, nothing is lost by asking only of numbers below 64
-  pub below_64 : length c.roles ≤ 64 → (r a : ℕ) → (ltb r 64 && (ltb a 64 && ancestor_by f g c r a)) ≡ ancestor_by f g c r a
-  below_64 few r a =
-      ⊎_elim
-      (λ (rl : r < 64).
-      ap (λ (b : Bool). b && (ltb a 64 && ancestor_by f g c r a)) (lt-ltb r 64 rl)
-      ∙ ⊎_elim
-      (λ (al : a < 64). ap (λ (b : Bool). b && ancestor_by f g c r a) (lt-ltb a 64 al))
-      (λ (al : 64 ≤ a). ap (λ (b : Bool). b && ancestor_by f g c r a) (le-ltb a 64 al) ∙ sym (ancestor_past r a (omega (arith, few))))
-      (cases_lt a 64))
-      (λ (rl : 64 ≤ r). ap (λ (b : Bool). b && (ltb a 64 && ancestor_by f g c r a)) (le-ltb r 64 rl) ∙ sym (none_above r a (omega (arith, few))))
-      (cases_lt r 64)

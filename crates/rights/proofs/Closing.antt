@@ -41,10 +41,6 @@ children_rise (x ∷ xs) up zero (suc j) d l h = above_head x xs up j d (omega a
 children_rise (x ∷ xs) up (suc k) zero d l h = absurd (omega arith)
 children_rise (x ∷ xs) up (suc k) (suc j) d l h = children_rise xs (tail_rises x xs up) k j d (omega arith) (omega arith)
 
-or_none : (b : Bool) → b ≡ (b || false)
-or_none true = refl
-or_none false = refl
-
 turned : (x y z w : Bool) → w ≡ z → ((x || y) || z) ≡ (x || (w || y))
 turned true y z w e = refl
 turned false true true w e = rw e
@@ -56,9 +52,6 @@ module _ (c : Content) where
   -- the first k records are in the rows
   abbrev pub Closed : ℕ → List Set64 → Type 0
   Closed k rows = (s a : ℕ) → s < 32 → cell rows s a ≡ (eqb a s || some k (by_step c s (λ t. reaches c t a)))
-
-  pub closed_none : (rows : List Set64) → ((s a : ℕ) → s < 32 → cell rows s a ≡ eqb a s) → Closed 0 rows
-  closed_none rows h s a l = h s a l ∙ or_none (eqb a s)
 
   module _ (upward : Upward c.parents) where
     lower : (k : ℕ) → k < length c.parents → (parent_at c k).parent < (parent_at c k).child

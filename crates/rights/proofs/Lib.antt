@@ -1,6 +1,7 @@
 -- The lemmas of this crate.
 pub mod Calls
 pub mod Counts
+pub mod Tables
 pub mod Reaching
 pub mod Closing
 pub mod Aboves

@@ -1,5 +1,6 @@
 -- What the test `reaches` says of the relation `Reached`.
 use Rattle.std.proofs.Common.{◌≡◌, ℕ, zero, suc, ◌<◌, ◌≤◌, Bool, true, false, ◌&&◌, ◌||◌, eqb, length, sym, refl, ap, ◌∙◌, subst, ⊎_elim, arith}
+use Rattle.std.proofs.Math.Bool.{or-false}
 use Rattle.std.proofs.lemmas.Bool.{cases_Bool, and_left, and_parts, and_from, or_left, or_right, or_cases, eqb-true, eq-eqb, ne_eqb}
 use Rattle.sets.specs.Bounds.{some}
 use Rattle.sets.proofs.Bounds.{decides_some, some_same, some_none, some_here}
@@ -8,10 +9,6 @@ use Rattle.policy.specs.Facts.{Upward}
 use Rattle.policy.specs.Policies.{says}
 use Rattle.rights.specs.Reach.{Reached, none, step, by_step, within, reaches}
 use Rattle.rights.specs.Laws.{ReachesMeans, ReachesItself, ReachesOn}
-
-or_none : (b : Bool) → (b || false) ≡ b
-or_none true = refl
-or_none false = refl
 
 module _ (c : Content) where
   -- a step asks only of its own parent
@@ -50,7 +47,7 @@ module _ (c : Content) where
     lowest_alone n a s l =
         let nothing : some (length c.parents) (by_step c s (within n c a)) ≡ false
         = some_none (length c.parents) (by_step c s (within n c a)) (λ k m. and_left _ _ (ne_eqb (parent_at c k).child s (λ (e : (parent_at c k).child ≡ s). omega (arith, lower k m)))) in
-        ap (λ (b : Bool). eqb a s || b) nothing ∙ or_none (eqb a s)
+        ap (λ (b : Bool). eqb a s || b) nothing ∙ or-false (eqb a s)
 
     -- from s, any number of steps from s on is enough
     enough : (m n a s : ℕ) → s ≤ m → s ≤ n → within m c a s ≡ within n c a s

@@ -14,13 +14,12 @@ use sets::rows::is_in;
 pub fn carries(policy: &Policy, role: usize, operation: u16, object: u16) -> bool
     ensures { result ≡ carried (says policy.now) role operation object }
 {
-    if role < policy.role_count() && (operation < 256 && object < 256) {
-        let schema = policy.role(role).schema;
-        policy.role_permits(role as u8, operation as u8, object as u8)
-            || policy.schema_permits(schema, operation as u8, object as u8)
-    } else {
-        false
-    }
+    let (Ok(operation), Ok(object)) = (u8::try_from(operation), u8::try_from(object)) else {
+        return false;
+    };
+    role < policy.role_count()
+        && (policy.role_permits(role as u8, operation, object)
+            || policy.schema_permits(policy.role(role).schema, operation, object))
 }
 
 /// Whether a role has a right: some ancestor of it carries it, where `above` tells the ancestors of each role.
@@ -33,6 +32,7 @@ pub fn has_right(
 ) -> bool
     ensures { result ≡ has_right_spec (cell above.now) (says policy.now) role operation object }
 {
+    // No struct of policy and table, and none of operation and object: made for one call, and taken apart at once.
     any(policy.role_count(), |a| {
         is_in(above, role, a) && carries(policy, a, operation, object)
     })

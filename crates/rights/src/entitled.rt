@@ -14,8 +14,10 @@ use sets::rows::is_in;
 pub fn is_assigned(policy: &Policy, badge: u16, role: usize) -> bool
     ensures { result ≡ assigned (says policy.now) badge role }
 {
-    (badge < policy.badges() as u16 && role < policy.role_count())
-        && policy.is_assigned(badge as u8, role as u8)
+    u8::try_from(badge).is_ok_and(|badge| {
+        (badge < policy.badges() && role < policy.role_count())
+            && policy.is_assigned(badge, role as u8)
+    })
 }
 
 /// Whether a badge is entitled to a role: it is assigned it or a role of which it is an ancestor, where `above` tells

@@ -16,6 +16,6 @@ module _ {P : Type 0} where
     above = cell s.above;
   }
 
-  -- the ground of a site whose plan means what `hall` says of it
+  -- the ground of a site whose plan means what `hall` says of it; a model of a site by its ground would hide the plan, which sealing promises to keep
   abbrev pub ground_by : (P → Hall) → Site P → Ground
   ground_by hall s = ground (hall s.plan) s

@@ -15,6 +15,7 @@ ghost use Rattle.site.specs.Blank.{record_count};
 pub struct Site<P> {
     plan: P,
     policy: Policy,
+    // Two tables by role, not one of pairs: the questions of rights and of entitlement take the ancestors alone.
     /// Number p is in entry r when place p lies in the extent of role r.
     inside: [Set64; 64],
     /// Number a is in entry r when role a is an ancestor of role r.

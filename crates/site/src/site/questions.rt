@@ -51,7 +51,7 @@ impl<P: Plan> Site<P> {
         ensures { result ≡ (ground_by P.Plan.hall self.now).placed_at ty x y }
     {
         lowest(self.plan.count(), |place| {
-            self.plan.type_of(place).is_some_and(|own| own == ty) && self.plan.covers(place, x, y)
+            self.plan.type_of(place) == Some(ty) && self.plan.covers(place, x, y)
         })
     }
 
@@ -66,6 +66,7 @@ impl<P: Plan> Site<P> {
     pub fn place_for(&self, role: usize, x: u16, y: u16, misses: u8) -> Option<usize>
         ensures { result ≡ where_at (ground_by P.Plan.hall self.now) role x y misses }
     {
+        // A branch, since `then` would give an Option of an Option.
         if self.bears(role, misses) {
             self.place_at(schema_of(&self.policy, role).logic, x, y)
         } else {

@@ -118,7 +118,8 @@ impl WordList for Charter {
         if self.badges == 0 {
             return kind == Kind::Badges;
         }
-        self.least_kind() <= kind && self.rises(word)
+        let in_order = self.least_kind() <= kind;
+        in_order && self.rises(word)
     }
 
     fn has_room(&self, word: u32) -> bool {

@@ -1,38 +1,22 @@
 -- What holds of a list of records, and of the list with one more.
-use Rattle.std.proofs.Common.{◌≡◌, ℕ, zero, suc, ◌<◌, ◌≤◌, Bool, true, ltb, List, [], ◌∷◌, ◌++◌, length, get_or, sym, ap, ◌∙◌, subst, ⊎_elim, arith}
-use Rattle.std.proofs.lemmas.List.{length_push, get_or_push, get_or_append_left}
-use Rattle.std.proofs.lemmas.Bool.{cases_lt, cond-true}
+use Rattle.std.proofs.Common.{◌≡◌, ℕ, zero, suc, ◌≤◌, Bool, true, ltb, List, [], ◌∷◌, ◌++◌, length, ap, ◌∙◌, arith}
+use Rattle.std.proofs.lemmas.List.{length_push}
+use Rattle.std.proofs.lemmas.Bool.{cond-true}
 use Rattle.std.specs.Prelude.{slice_get, slice_index_or}
 use Rattle.std.specs.Option.{UnwrapsOrElse}
 use Rattle.keyed.specs.Orders.{placed, follows}
-use Rattle.records.specs.declared.kinds.Parent.{Parent}
-use Rattle.policy.specs.Facts.{Below, Upward}
+use Rattle.policy.specs.Facts.{Below}
 
 module _ {R : Type 0} where
   -- a record that fits is put after the others
   pub pushed : (most : ℕ) (xs ys : List R) (x y : R) → x ≡ y → ys ≡ placed most xs x → ltb (length xs) most ≡ true → ys ≡ xs ++ y ∷ []
   pushed most xs ys x y same e room = e ∙ cond-true _ _ _ room ∙ ap (λ z. xs ++ z ∷ []) same
 
-  module _ (xs ys : List R) (x : R) (e : ys ≡ xs ++ x ∷ []) where
-    pub longer : length xs ≤ length ys
-    longer = omega (arith, ap length e, length_push xs x)
-
-    pub each_push : (P : R → Type 0) → ((k : ℕ) (d : R) → k < length xs → P (get_or xs k d)) → P x → (k : ℕ) (d : R) → k < length ys → P (get_or ys k d)
-    each_push P h p k d l =
-        subst (λ (zs : List R). P (get_or zs k d)) (sym e)
-        (⊎_elim
-        (λ (m : k < length xs). subst P (sym (get_or_append_left xs (x ∷ []) d k m)) (h k d m))
-        (λ (m : length xs ≤ k). let n : length xs ≡ k = omega (arith, ap length e, length_push xs x) in subst P (sym (get_or_push xs x d k n)) p)
-        (cases_lt k (length xs)))
-
-    pub below_push : (f : R → ℕ) (n : ℕ) → Below f n xs → f x < n → Below f n ys
-    below_push f n h p = each_push (λ z. f z < n) h p
+  pub longer : (xs : List R) (x : R) → length xs ≤ length (xs ++ x ∷ [])
+  longer xs x = omega (arith, length_push xs x)
 
   pub below_more : (f : R → ℕ) (n m : ℕ) (xs : List R) → n ≤ m → Below f n xs → Below f m xs
   below_more f n m xs le h k d l = let b = h k d l in omega arith
-
-pub upward_push : (xs ys : List Parent) (x : Parent) → ys ≡ xs ++ x ∷ [] → Upward xs → x.parent < x.child → Upward ys
-upward_push xs ys x e h p = each_push xs ys x e (λ z. z.parent < z.child) h p
 
 -- what follows in one order follows in the same order otherwise told
 pub follows_same : {R K : Type 0} (less told : K → K → Bool) (key : R → K) (xs : List R) (x y : R) → less ≡ told → x ≡ y → follows less key xs (key x) ≡ follows told key xs (key y)

@@ -1,10 +1,11 @@
 -- The kinds that may stand at a place of the list, and what is not there yet.
-use Rattle.std.proofs.Common.{◌≡◌, ℕ, ◌≤◌, Bool, true, false, cond, ◌&&◌, eqb, leb, List, [], length, sym, refl, ap, ◌∙◌, arith, leb-true}
+use Rattle.std.proofs.Common.{◌≡◌, ℕ, ◌≤◌, Bool, true, false, cond, ◌&&◌, eqb, leb, [], sym, refl, ap, ◌∙◌, arith, leb-true}
 use Rattle.std.proofs.lemmas.List.{nil_from_length}
-use Rattle.std.proofs.lemmas.Bool.{and_parts, both_ways, eqb-true, ltb-false, le-leb}
+use Rattle.std.proofs.lemmas.Bool.{and_parts, eqb-true, le-leb}
+use Rattle.std.proofs.lemmas.Bool.Decides.{nat_tests}
 use Rattle.wordlist.specs.Fields.{kind_of}
 use Rattle.policy.specs.Contents.{Content}
-use Rattle.policy.specs.Rules.{turn_as, rises_as, least_kind, some}
+use Rattle.policy.specs.Rules.{turn_as, rises_as, least_kind}
 
 -- one of six tests holds
 pub data Which (a b c d e f : Bool) : Type 0 where
@@ -75,55 +76,22 @@ module _ (c : Content) (w : ℕ) where
   pub front_of : turn_as (kind_of w) c w ≡ true → (kind_of w ≡ 8 → ⊥) → (kind_of w ≡ 9 → ⊥) → (kind_of w ≡ 10 → ⊥) → (kind_of w ≡ 11 → ⊥) → (kind_of w ≡ 12 → ⊥) → (kind_of w ≡ 13 → ⊥) → (c.badges ≡ 0) × (kind_of w ≡ 7)
   front_of e = front_from (kind_of w) (turned (kind_of w) e)
 
--- where the least kind that may stand is n or lower, no record is of a kind above n
-least_12 : (a q s r p : Bool) → leb (cond a 13 (cond q 12 (cond s 11 (cond r 10 (cond p 9 8))))) 12 ≡ true → a ≡ false
-least_12 true q s r p h = absurd (both_ways false refl h)
-least_12 false q s r p h = refl
-
-least_11 : (a q s r p : Bool) → leb (cond a 13 (cond q 12 (cond s 11 (cond r 10 (cond p 9 8))))) 11 ≡ true → q ≡ false
-least_11 true q s r p h = absurd (both_ways false refl h)
-least_11 false true s r p h = absurd (both_ways false refl h)
-least_11 false false s r p h = refl
-
-least_10 : (a q s r p : Bool) → leb (cond a 13 (cond q 12 (cond s 11 (cond r 10 (cond p 9 8))))) 10 ≡ true → s ≡ false
-least_10 true q s r p h = absurd (both_ways false refl h)
-least_10 false true s r p h = absurd (both_ways false refl h)
-least_10 false false true r p h = absurd (both_ways false refl h)
-least_10 false false false r p h = refl
-
-least_9 : (a q s r p : Bool) → leb (cond a 13 (cond q 12 (cond s 11 (cond r 10 (cond p 9 8))))) 9 ≡ true → r ≡ false
-least_9 true q s r p h = absurd (both_ways false refl h)
-least_9 false true s r p h = absurd (both_ways false refl h)
-least_9 false false true r p h = absurd (both_ways false refl h)
-least_9 false false false true p h = absurd (both_ways false refl h)
-least_9 false false false false p h = refl
-
-least_8 : (a q s r p : Bool) → leb (cond a 13 (cond q 12 (cond s 11 (cond r 10 (cond p 9 8))))) 8 ≡ true → p ≡ false
-least_8 true q s r p h = absurd (both_ways false refl h)
-least_8 false true s r p h = absurd (both_ways false refl h)
-least_8 false false true r p h = absurd (both_ways false refl h)
-least_8 false false false true p h = absurd (both_ways false refl h)
-least_8 false false false false true h = absurd (both_ways false refl h)
-least_8 false false false false false h = refl
-
-no_some : {R : Type 0} (xs : List R) → some xs ≡ false → xs ≡ []
-no_some xs e = nil_from_length xs (let l = ltb-false 0 (length xs) e in omega arith)
-
 pub higher : (n m k : ℕ) → m ≤ k → leb n m ≡ true → leb n k ≡ true
 higher n m k le e = le-leb n k (let l = leb-true n m e in omega arith)
 
+-- where the least kind that may stand is n or lower, no record is of a kind above n
 module _ (c : Content) where
   pub no_assignments : leb (least_kind c) 12 ≡ true → c.assignments ≡ []
-  no_assignments e = no_some c.assignments (least_12 (some c.assignments) (some c.role_permissions) (some c.schema_permissions) (some c.roles) (some c.parents) e)
+  no_assignments e = nil_from_length c.assignments (grind (arith, nat_tests))
 
   pub no_role_permissions : leb (least_kind c) 11 ≡ true → c.role_permissions ≡ []
-  no_role_permissions e = no_some c.role_permissions (least_11 (some c.assignments) (some c.role_permissions) (some c.schema_permissions) (some c.roles) (some c.parents) e)
+  no_role_permissions e = nil_from_length c.role_permissions (grind (arith, nat_tests))
 
   pub no_schema_permissions : leb (least_kind c) 10 ≡ true → c.schema_permissions ≡ []
-  no_schema_permissions e = no_some c.schema_permissions (least_10 (some c.assignments) (some c.role_permissions) (some c.schema_permissions) (some c.roles) (some c.parents) e)
+  no_schema_permissions e = nil_from_length c.schema_permissions (grind (arith, nat_tests))
 
   pub no_roles : leb (least_kind c) 9 ≡ true → c.roles ≡ []
-  no_roles e = no_some c.roles (least_9 (some c.assignments) (some c.role_permissions) (some c.schema_permissions) (some c.roles) (some c.parents) e)
+  no_roles e = nil_from_length c.roles (grind (arith, nat_tests))
 
   pub no_parents : leb (least_kind c) 8 ≡ true → c.parents ≡ []
-  no_parents e = no_some c.parents (least_8 (some c.assignments) (some c.role_permissions) (some c.schema_permissions) (some c.roles) (some c.parents) e)
+  no_parents e = nil_from_length c.parents (grind (arith, nat_tests))

@@ -1,5 +1,6 @@
 -- What reading has shown of a policy's records, and of what is read with one more word.
-use Rattle.std.proofs.Common.{◌≡◌, ℕ, ◌≤◌, true, [], ◌∷◌, ◌++◌, List, length, ltb, refl, sym, ap, ◌∙◌, subst, arith}
+use Rattle.std.proofs.Common.{◌≡◌, ℕ, ◌<◌, ◌≤◌, true, [], ◌∷◌, ◌++◌, List, length, ltb, refl, sym, ap, ◌∙◌, subst, arith}
+use Rattle.std.proofs.lemmas.List.Elements.{All-push}
 use Rattle.std.proofs.lemmas.Bool.{cond-true, eqb-true}
 use Rattle.wordlist.specs.Fields.{kind_of}
 use Rattle.wordlist.specs.Reading.{passing, takes}
@@ -18,7 +19,7 @@ use Rattle.policy.specs.declared.charter.Charter.{Charter}
 use Rattle.policy.specs.Contents.{Content, content_of}
 use Rattle.policy.specs.Facts.{Upward, ChildrenIn, SchemasIn, OwnersIn, HoldersIn, RolesIn, BadgesIn}
 use Rattle.policy.specs.Rules.{policy_rules, room_as, sound_as, with_as}
-use Rattle.policy.proofs.Growing.{pushed, longer, below_push, below_more, upward_push}
+use Rattle.policy.proofs.Growing.{pushed, longer, below_more}
 use Rattle.policy.proofs.Order.{Turned, front, schema, parent, role, schema_permission, role_permission, assignment, turned}
 use Rattle.policy.proofs.Turns.{turn_of, room_of, sound_of, took, sound_badges_turn, sound_parent_turn, sound_role_turn, sound_schema_permission_turn, sound_role_permission_turn, sound_assignment_turn}
 
@@ -43,7 +44,7 @@ module _ (c : Content) (w : ℕ) where
       subst (λ n. Standing (with_as n c w)) (sym is)
       (record { badges_few = good.1; upward = h.upward; children = h.children; role_schemas = h.role_schemas; owners = h.owners; holders = h.holders; assigned_roles = h.assigned_roles; assigned_badges = below_more (λ a. a.badge) c.badges (badges_of w) c.assignments (omega arith) h.assigned_badges })
   with_word k (schema l) s h =
-      let more = longer c.schemas (c.schemas ++ schema_of w ∷ []) (schema_of w) refl in
+      let more = longer c.schemas (schema_of w) in
       subst (λ n. Standing (with_as n c w)) (sym l.kind)
       (record {
         badges_few = h.badges_few;
@@ -60,8 +61,8 @@ module _ (c : Content) (w : ℕ) where
       subst (λ n. Standing (with_as n c w)) (sym l.kind)
       (record {
         badges_few = h.badges_few;
-        upward = upward_push c.parents _ (parent_of w) refl h.upward good.0;
-        children = below_push c.parents _ (parent_of w) refl (λ p. p.child) (length c.schemas) h.children good.1;
+        upward = All-push (λ p. p.parent < p.child) c.parents (parent_of w) h.upward good.0;
+        children = All-push (λ p. p.child < length c.schemas) c.parents (parent_of w) h.children good.1;
         role_schemas = h.role_schemas;
         owners = h.owners;
         holders = h.holders;
@@ -70,13 +71,13 @@ module _ (c : Content) (w : ℕ) where
       })
   with_word k (role l) s h =
       let good = sound_role_turn (length c.schemas) w (ap (λ n. sound_as n c w) (sym l.kind) ∙ s) in
-      let more = longer c.roles (c.roles ++ role_of w ∷ []) (role_of w) refl in
+      let more = longer c.roles (role_of w) in
       subst (λ n. Standing (with_as n c w)) (sym l.kind)
       (record {
         badges_few = h.badges_few;
         upward = h.upward;
         children = h.children;
-        role_schemas = below_push c.roles _ (role_of w) refl (λ r. r.schema) (length c.schemas) h.role_schemas good.0;
+        role_schemas = All-push (λ r. r.schema < length c.schemas) c.roles (role_of w) h.role_schemas good.0;
         owners = h.owners;
         holders = below_more (λ p. p.role) _ _ c.role_permissions more h.holders;
         assigned_roles = below_more (λ a. a.role) _ _ c.assignments more h.assigned_roles;
@@ -90,7 +91,7 @@ module _ (c : Content) (w : ℕ) where
         upward = h.upward;
         children = h.children;
         role_schemas = h.role_schemas;
-        owners = below_push c.schema_permissions _ (schema_permission_of w) refl (λ p. p.schema) (length c.schemas) h.owners good.0;
+        owners = All-push (λ p. p.schema < length c.schemas) c.schema_permissions (schema_permission_of w) h.owners good.0;
         holders = h.holders;
         assigned_roles = h.assigned_roles;
         assigned_badges = h.assigned_badges;
@@ -104,7 +105,7 @@ module _ (c : Content) (w : ℕ) where
         children = h.children;
         role_schemas = h.role_schemas;
         owners = h.owners;
-        holders = below_push c.role_permissions _ (role_permission_of w) refl (λ p. p.role) (length c.roles) h.holders good.0;
+        holders = All-push (λ p. p.role < length c.roles) c.role_permissions (role_permission_of w) h.holders good.0;
         assigned_roles = h.assigned_roles;
         assigned_badges = h.assigned_badges;
       })
@@ -118,8 +119,8 @@ module _ (c : Content) (w : ℕ) where
         role_schemas = h.role_schemas;
         owners = h.owners;
         holders = h.holders;
-        assigned_roles = below_push c.assignments _ (assignment_of w) refl (λ a. a.role) (length c.roles) h.assigned_roles good.0;
-        assigned_badges = below_push c.assignments _ (assignment_of w) refl (λ a. a.badge) c.badges h.assigned_badges good.1;
+        assigned_roles = All-push (λ a. a.role < length c.roles) c.assignments (assignment_of w) h.assigned_roles good.0;
+        assigned_badges = All-push (λ a. a.badge < c.badges) c.assignments (assignment_of w) h.assigned_badges good.1;
       })
 
   module _ (ok : passing policy_rules c w ≡ true) where

@@ -1,6 +1,7 @@
 -- What a word that breaks no rule tells, by its kind.
-use Rattle.std.proofs.Common.{◌≡◌, ℕ, ◌<◌, ◌≤◌, Bool, true, false, cond, ◌&&◌, eqb, ltb, leb, sym, refl, ap, ◌∙◌, leb-true}
-use Rattle.std.proofs.lemmas.Bool.{and_parts, both_ways, cond-true, eqb-true, ltb-true}
+use Rattle.std.proofs.Common.{◌≡◌, ℕ, ◌<◌, ◌≤◌, Bool, true, false, cond, ◌&&◌, eqb, leb, sym, ap, ◌∙◌, arith}
+use Rattle.std.proofs.lemmas.Bool.{and_parts, both_ways, cond-true}
+use Rattle.std.proofs.lemmas.Bool.Decides.{nat_tests}
 use Rattle.wordlist.specs.Fields.{field, kind_of}
 use Rattle.wordlist.specs.Reading.{passing, takes}
 use Rattle.records.specs.Words.{badges_of, parent_of, role_of, schema_permission_of, role_permission_of, assignment_of}
@@ -10,37 +11,22 @@ use Rattle.policy.specs.Rules.{policy_rules, turn_as, rises_as, room_as, sound_a
 
 -- fields that are good
 pub sound_badges_turn : (w : ℕ) → sound_badges w ≡ true → (1 ≤ badges_of w) × (badges_of w ≤ 128) × (field 8 20 w ≡ 0)
-sound_badges_turn w e =
-    let p = and_parts (leb 1 (badges_of w)) (leb (badges_of w) 128 && eqb (field 8 20 w) 0) e in
-    let q = and_parts (leb (badges_of w) 128) (eqb (field 8 20 w) 0) p.1 in
-    (leb-true _ _ p.0, leb-true _ _ q.0, eqb-true _ _ q.1)
+sound_badges_turn w e = (grind (arith, nat_tests), grind (arith, nat_tests), grind (arith, nat_tests))
 
 pub sound_parent_turn : (n w : ℕ) → sound_parent n w ≡ true → ((parent_of w).parent < (parent_of w).child) × ((parent_of w).child < n) × (field 10 18 w ≡ 0)
-sound_parent_turn n w e =
-    let p = and_parts (ltb (parent_of w).parent (parent_of w).child) (ltb (parent_of w).child n && eqb (field 10 18 w) 0) e in
-    let q = and_parts (ltb (parent_of w).child n) (eqb (field 10 18 w) 0) p.1 in
-    (ltb-true _ _ p.0, ltb-true _ _ q.0, eqb-true _ _ q.1)
+sound_parent_turn n w e = (grind (arith, nat_tests), grind (arith, nat_tests), grind (arith, nat_tests))
 
 pub sound_role_turn : (n w : ℕ) → sound_role n w ≡ true → ((role_of w).schema < n) × (field 11 17 w ≡ 0)
-sound_role_turn n w e =
-    let p = and_parts (ltb (role_of w).schema n) (eqb (field 11 17 w) 0) e in
-    (ltb-true _ _ p.0, eqb-true _ _ p.1)
+sound_role_turn n w e = (grind (arith, nat_tests), grind (arith, nat_tests))
 
 pub sound_schema_permission_turn : (n w : ℕ) → sound_schema_permission n w ≡ true → ((schema_permission_of w).schema < n) × (field 17 11 w ≡ 0)
-sound_schema_permission_turn n w e =
-    let p = and_parts (ltb (schema_permission_of w).schema n) (eqb (field 17 11 w) 0) e in
-    (ltb-true _ _ p.0, eqb-true _ _ p.1)
+sound_schema_permission_turn n w e = (grind (arith, nat_tests), grind (arith, nat_tests))
 
 pub sound_role_permission_turn : (n w : ℕ) → sound_role_permission n w ≡ true → ((role_permission_of w).role < n) × (field 18 10 w ≡ 0)
-sound_role_permission_turn n w e =
-    let p = and_parts (ltb (role_permission_of w).role n) (eqb (field 18 10 w) 0) e in
-    (ltb-true _ _ p.0, eqb-true _ _ p.1)
+sound_role_permission_turn n w e = (grind (arith, nat_tests), grind (arith, nat_tests))
 
 pub sound_assignment_turn : (n b w : ℕ) → sound_assignment n b w ≡ true → ((assignment_of w).role < n) × ((assignment_of w).badge < b) × (field 13 15 w ≡ 0)
-sound_assignment_turn n b w e =
-    let p = and_parts (ltb (assignment_of w).role n) (ltb (assignment_of w).badge b && eqb (field 13 15 w) 0) e in
-    let q = and_parts (ltb (assignment_of w).badge b) (eqb (field 13 15 w) 0) p.1 in
-    (ltb-true _ _ p.0, ltb-true _ _ q.0, eqb-true _ _ q.1)
+sound_assignment_turn n b w e = (grind (arith, nat_tests), grind (arith, nat_tests), grind (arith, nat_tests))
 
 by_front : (front first a b : Bool) → first ≡ false → cond front first (a && b) ≡ true → b ≡ true
 by_front true first a b other e = absurd (both_ways first other e)
@@ -65,18 +51,3 @@ module _ (c : Content) (w k : ℕ) (is : kind_of w ≡ k) (ok : passing policy_r
 
   pub took : (s : Content) → s ≡ with_as k c w → s ≡ takes policy_rules c w
   took s e = e ∙ ap (λ n. with_as n c w) (sym is) ∙ sym (cond-true _ _ _ ok)
-
--- the three tests together
-pub all_pass : (t r s x : Bool) → t ≡ true → r ≡ true → x ≡ s → x ≡ (t && (r && s))
-all_pass true true s x p q e = e
-all_pass true false s x p q e = absurd (both_ways false refl q)
-all_pass false r s x p q e = absurd (both_ways false refl p)
-
-pub no_turn : (t r s x : Bool) → t ≡ false → x ≡ false → x ≡ (t && (r && s))
-no_turn false r s x p e = e
-no_turn true r s x p e = absurd (both_ways true p refl)
-
-pub no_room : (t r s x : Bool) → r ≡ false → x ≡ false → x ≡ (t && (r && s))
-no_room true false s x p e = e
-no_room false false s x p e = e
-no_room t true s x p e = absurd (both_ways true p refl)

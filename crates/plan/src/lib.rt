@@ -5,6 +5,7 @@ ghost use Rattle.std.specs.Prelude.{◌≡◌, ℕ, ◌≤◌, length};
 ghost use Rattle.sets.specs.Member.{member};
 ghost use Rattle.plan.specs.Hall.{Hall, covers_at, most_places, most_side, type_at};
 
+use point::Point;
 use sets::Set64;
 
 /// A floor and its places, asked by five questions: width, height, count, type, covers.
@@ -31,16 +32,16 @@ pub trait Plan {
         ensures { result ≡ type_at (hall self.now) place };
 
     /// Whether a place covers a point.
-    fn covers(&self, place: usize, x: u16, y: u16) -> bool
-        ensures { result ≡ covers_at (hall self.now) place x y };
+    fn covers(&self, place: usize, at: Point) -> bool
+        ensures { result ≡ covers_at (hall self.now) place at.x at.y };
 
     /// The numbers of the places that cover a point. It follows from the five, so a maker shows nothing for it.
-    fn places_at(&self, x: u16, y: u16) -> Set64
-        ensures { (k : ℕ) → member result.bits k ≡ covers_at (hall self.now) k x y }
+    fn places_at(&self, at: Point) -> Set64
+        ensures { (k : ℕ) → member result.bits k ≡ covers_at (hall self.now) k at.x at.y }
     {
         let mut found = Set64::none();
         for k in 0..self.count() {
-            if self.covers(k, x, y) {
+            if self.covers(k, at) {
                 found = found.with(k);
             }
         }

@@ -1,13 +1,11 @@
 //! Whether a closed ring of corners covers a point.
 #![tactic(auto)]
 
-pub mod corner;
-
 ghost use Rattle.std.specs.Prelude.{◌≡◌, ◌^◌, ◌<◌, ◌≤◌, pos, ◌-ℤ◌, ◌*ℤ◌};
 ghost use Rattle.std.specs.Int.Signed.{mag};
 ghost use Rattle.ring.specs.Ring.{between as lies, covers, crossed as crosses, on_edge, side_of};
 
-use corner::Corner;
+use point::Point;
 
 /// The step from `a` to `b`.
 fn step(a: u16, b: u16) -> i32
@@ -30,8 +28,8 @@ fn times(p: i32, q: i32) -> i64
 /// An edge of a ring, from a corner to the next.
 #[derive(Clone, Copy)]
 struct Edge {
-    from: Corner,
-    to: Corner,
+    from: Point,
+    to: Point,
 }
 
 /// Whether `n` lies between `a` and `b`, both included.
@@ -43,54 +41,53 @@ fn between(a: u16, b: u16, n: u16) -> bool
 
 impl Edge {
     /// D of the edge and the point: on which side of the edge the point lies.
-    fn side(self, point: Corner) -> i64
-        ensures { result ≡ side_of self.from self.to point.x point.y }
+    fn side(self, at: Point) -> i64
+        ensures { result ≡ side_of self.from self.to at.x at.y }
     {
         let Edge { from, to } = self;
-        times(step(from.x, to.x), step(from.y, point.y))
-            - times(step(from.y, to.y), step(from.x, point.x))
+        times(step(from.x, to.x), step(from.y, at.y))
+            - times(step(from.y, to.y), step(from.x, at.x))
     }
 
     /// Whether the point is on the edge.
-    fn contains(self, point: Corner) -> bool
-        ensures { result ≡ on_edge self.from self.to point.x point.y }
+    fn contains(self, at: Point) -> bool
+        ensures { result ≡ on_edge self.from self.to at.x at.y }
     {
         let Edge { from, to } = self;
-        between(from.x, to.x, point.x) && between(from.y, to.y, point.y) && self.side(point) == 0
+        between(from.x, to.x, at.x) && between(from.y, to.y, at.y) && self.side(at) == 0
     }
 
     /// Whether the edge is crossed.
-    fn crossed(self, point: Corner) -> bool
-        ensures { result ≡ crosses self.from self.to point.x point.y }
+    fn crossed(self, at: Point) -> bool
+        ensures { result ≡ crosses self.from self.to at.x at.y }
     {
         let Edge { from: a, to: b } = self;
-        let y = point.y;
+        let y = at.y;
         (a.y > y) != (b.y > y)
             && if a.y < b.y {
-                self.side(point) > 0
+                self.side(at) > 0
             } else {
-                self.side(point) < 0
+                self.side(at) < 0
             }
     }
 }
 
 /// Whether the closed ring of these corners covers the point.
-pub fn covered(corners: &[Corner], x: u16, y: u16) -> bool
-    ensures { result ≡ covers corners.now x y }
+pub fn covered(corners: &[Point], at: Point) -> bool
+    ensures { result ≡ covers corners.now at.x at.y }
 {
     let [.., last] = corners else {
         return false;
     };
-    let point = Corner { x, y };
     // the loop carries the corner by hand: an iterator of edges under `any` and `count` takes 1.6 times as long
     let mut from = *last;
     let mut count = 0usize;
     for to in corners {
         let edge = Edge { from, to: *to };
-        if edge.contains(point) {
+        if edge.contains(at) {
             return true;
         }
-        if edge.crossed(point) {
+        if edge.crossed(at) {
             count += 1;
         }
         from = *to;

@@ -12,7 +12,7 @@ loop-k-init g c = filled_none _ c.none-found.result.bits c.none-found.ensures
 
 pub loop-k-preserved : goal.loop-k-preserved
 loop-k-preserved g c =
-    let f : ℕ → Bool = λ k. covers_at (g.Self.Plan.hall c.args.self.now) k c.args.x c.args.y in
+    let f : ℕ → Bool = λ k. covers_at (g.Self.Plan.hall c.args.self.now) k c.args.at.x c.args.at.y in
     let few = g.met.Self.Plan.few c.args.self.now in
     let low : c.loop-k.k < 64 = omega arith in
     elim c.if-covers.branch [
@@ -23,4 +23,4 @@ loop-k-preserved g c =
 pub returns : goal.returns
 returns g c =
     let h = g.Self.Plan.hall c.args.self.now in
-    filled_all (λ k. covers_at h k c.args.x c.args.y) c.loop-k.k c.loop-k.found.bits c.loop-k.invariant (λ i l. covers_past h c.args.x c.args.y i (omega arith))
+    filled_all (λ k. covers_at h k c.args.at.x c.args.at.y) c.loop-k.k c.loop-k.found.bits c.loop-k.invariant (λ i l. covers_past h c.args.at.x c.args.at.y i (omega arith))

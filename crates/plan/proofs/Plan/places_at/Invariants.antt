@@ -5,4 +5,4 @@ use Rattle.plan.proofs.Plan.places_at.Given as goal
 
 -- the numbers below k are decided
 abbrev pub invariant-loop-k : goal.invariant-loop-k
-invariant-loop-k g l = Filled (λ k. covers_at (g.Self.Plan.hall l.self) k l.x l.y) l.k l.found.bits
+invariant-loop-k g l = Filled (λ k. covers_at (g.Self.Plan.hall l.self) k l.at.x l.at.y) l.k l.found.bits

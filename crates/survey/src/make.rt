@@ -6,6 +6,7 @@ ghost use Rattle.survey.specs.Kept.{Tied, survey_of};
 
 use super::{Seen, Survey};
 use plan::Plan;
+use point::Point;
 use sets::Set64;
 use std::array;
 
@@ -51,7 +52,7 @@ impl Survey {
         let mut places = array::from_fn(|place| Seen::before(plan.type_of(place)));
         for y in 0..plan.height() {
             for x in 0..plan.width() {
-                note(&mut places[..count], plan.places_at(x, y));
+                note(&mut places[..count], plan.places_at(Point { x, y }));
             }
         }
         Survey { count, places }

@@ -11,6 +11,7 @@ use arrayvec::ArrayVec;
 use listed::floor::Floor;
 use listed::parts::parts;
 use listed::shape::Shape;
+use point::Point;
 use wordlist::fields::bits;
 use wordlist::kinds::Kind;
 
@@ -66,10 +67,10 @@ impl Shape for CellSet {
         self.ty
     }
 
-    fn covers(&self, x: u16, y: u16) -> bool {
+    fn covers(&self, at: Point) -> bool {
         self.rows
             .as_slice()
-            .get((y / 16) as usize)
-            .is_some_and(|row| has_column(*row, x / 16))
+            .get((at.y / 16) as usize)
+            .is_some_and(|row| has_column(*row, at.x / 16))
     }
 }

@@ -10,16 +10,16 @@ use arrayvec::ArrayVec;
 use listed::floor::Floor;
 use listed::parts::parts;
 use listed::shape::Shape;
-use ring::corner::Corner;
+use point::Point;
 use ring::covered;
 use wordlist::fields::bits;
 use wordlist::kinds::Kind;
 
 /// The corner that a word says.
-fn corner(word: u32) -> Corner
+fn corner(word: u32) -> Point
     ensures { result ≡ corner_of word }
 {
-    Corner {
+    Point {
         x: bits(word, 0, 8) as u16,
         y: bits(word, 8, 8) as u16,
     }
@@ -65,7 +65,7 @@ impl Shape for Outline {
         self.ty
     }
 
-    fn covers(&self, x: u16, y: u16) -> bool {
-        covered(self.corners.as_slice(), x, y)
+    fn covers(&self, at: Point) -> bool {
+        covered(self.corners.as_slice(), at)
     }
 }

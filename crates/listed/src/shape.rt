@@ -8,6 +8,7 @@ ghost use Rattle.wordlist.specs.Kinds.{number_of};
 
 use super::floor::Floor;
 use arrayvec::ArrayVec;
+use point::Point;
 use wordlist::kinds::Kind;
 
 /// A place that is read from a head and the words after it.
@@ -46,8 +47,8 @@ pub trait Shape {
         ensures { result ≡ (make.meaning (model self.now)).ty };
 
     /// Whether the place covers a point of the floor.
-    fn covers(&self, x: u16, y: u16) -> bool
-        ensures { result ≡ (make.meaning (model self.now)).covers x y };
+    fn covers(&self, at: Point) -> bool
+        ensures { result ≡ (make.meaning (model self.now)).covers at.x at.y };
 
     /// At most sixteen words follow a good head.
     ghost short: { (w : ℕ) → make.sound_head w ≡ true → body_of w ≤ 16 };

@@ -2,7 +2,7 @@
 #![tactic(auto)]
 
 /// A point: `x` from side to side, `y` from top to bottom.
-#[derive(Clone, Copy, Debug, Eq, PartialEq)]
+#[derive(Clone, Copy, Debug, Default, Eq, PartialEq)]
 pub struct Point {
     pub x: u16,
     pub y: u16,

@@ -7,6 +7,7 @@ ghost use Rattle.std.proofs.lemmas.List.{length-map};
 use super::super::shape::Shape;
 use super::Listed;
 use plan::Plan;
+use point::Point;
 
 impl<S: Shape + Drop> Plan for Listed<S> {
     ghost hall = { λ p. hall_of S.Shape.make.meaning (layout_of S.Shape.model p.sheet) };
@@ -35,14 +36,14 @@ impl<S: Shape + Drop> Plan for Listed<S> {
             .map(|found| found.type_of())
     }
 
-    fn covers(&self, place: usize, x: u16, y: u16) -> bool {
-        if x >= self.sheet.floor.width || y >= self.sheet.floor.height {
+    fn covers(&self, place: usize, at: Point) -> bool {
+        if at.x >= self.sheet.floor.width || at.y >= self.sheet.floor.height {
             return false;
         }
         self.sheet
             .places
             .records()
             .get(place)
-            .is_some_and(|found| found.covers(x, y))
+            .is_some_and(|found| found.covers(at))
     }
 }

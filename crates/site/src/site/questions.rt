@@ -10,6 +10,7 @@ ghost use Rattle.site.specs.Kept.{ground_by};
 
 use super::Site;
 use plan::Plan;
+use point::Point;
 use policy::policy::Policy;
 use records::kinds::Schema;
 use rights::carried::has_right;
@@ -40,18 +41,18 @@ impl<P: Plan> Site<P> {
     }
 
     /// Whether a point is on the floor.
-    pub fn is_on_floor(&self, x: u16, y: u16) -> bool
-        ensures { result ≡ (ground_by P.Plan.hall self.now).on_floor x y }
+    pub fn is_on_floor(&self, at: Point) -> bool
+        ensures { result ≡ (ground_by P.Plan.hall self.now).on_floor at.x at.y }
     {
-        x < self.plan.width() && y < self.plan.height()
+        at.x < self.plan.width() && at.y < self.plan.height()
     }
 
     /// The lowest-numbered place of a type that covers a point.
-    pub fn place_at(&self, ty: u8, x: u16, y: u16) -> Option<usize>
-        ensures { result ≡ (ground_by P.Plan.hall self.now).placed_at ty x y }
+    pub fn place_at(&self, ty: u8, at: Point) -> Option<usize>
+        ensures { result ≡ (ground_by P.Plan.hall self.now).placed_at ty at.x at.y }
     {
         lowest(self.plan.count(), |place| {
-            self.plan.type_of(place) == Some(ty) && self.plan.covers(place, x, y)
+            self.plan.type_of(place) == Some(ty) && self.plan.covers(place, at)
         })
     }
 
@@ -63,12 +64,12 @@ impl<P: Plan> Site<P> {
     }
 
     /// Where a badge heard at a point, and missed so many times since, is for a role.
-    pub fn place_for(&self, role: usize, x: u16, y: u16, misses: u8) -> Option<usize>
-        ensures { result ≡ where_at (ground_by P.Plan.hall self.now) role x y misses }
+    pub fn place_for(&self, role: usize, at: Point, misses: u8) -> Option<usize>
+        ensures { result ≡ where_at (ground_by P.Plan.hall self.now) role at.x at.y misses }
     {
         // A branch, since `then` would give an Option of an Option.
         if self.bears(role, misses) {
-            self.place_at(schema_of(&self.policy, role).logic, x, y)
+            self.place_at(schema_of(&self.policy, role).logic, at)
         } else {
             None
         }

@@ -8,6 +8,7 @@ ghost use Rattle.std.specs.Prelude.{◌≡◌, ℕ, ◌≤◌};
 ghost use Rattle.planview.specs.Views.{points_of_row as points_of_row_spec, points_of};
 
 use plan::Plan;
+use point::Point;
 
 /// How many points of row `y` a place covers.
 fn points_of_row<P: Plan>(plan: &P, place: usize, y: u16) -> u32
@@ -15,7 +16,7 @@ fn points_of_row<P: Plan>(plan: &P, place: usize, y: u16) -> u32
     ensures most { result ≤ 256 }
 {
     let points = (0..plan.width())
-        .filter(|x| plan.covers(place, *x, y))
+        .filter(|x| plan.covers(place, Point { x: *x, y }))
         .count();
     points as u32
 }

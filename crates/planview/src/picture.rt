@@ -5,6 +5,7 @@ ghost use Rattle.planview.specs.Views.{mark_at, picture_row};
 
 use arrayvec::ArrayVec;
 use plan::Plan;
+use point::Point;
 
 /// One row: `#` for each point that is covered, `.` for each other one.
 #[derive(Drop)]
@@ -12,10 +13,10 @@ pub struct Row {
     marks: ArrayVec<u8, 256>,
 }
 
-fn mark<P: Plan>(plan: &P, place: usize, x: u16, y: u16) -> u8
-    ensures { result ≡ mark_at (P.hall plan.now) place y x }
+fn mark<P: Plan>(plan: &P, place: usize, at: Point) -> u8
+    ensures { result ≡ mark_at (P.hall plan.now) place at.y at.x }
 {
-    if plan.covers(place, x, y) { b'#' } else { b'.' }
+    if plan.covers(place, at) { b'#' } else { b'.' }
 }
 
 impl Row {
@@ -25,7 +26,7 @@ impl Row {
     {
         let mut marks = ArrayVec::new();
         for x in 0..plan.width() {
-            marks.push(mark(plan, place, x, y));
+            marks.push(mark(plan, place, Point { x, y }));
         }
         Row { marks }
     }

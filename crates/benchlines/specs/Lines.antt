@@ -25,7 +25,7 @@ is letter c = c == slice_index (codes letter) 0
 -- the call of a letter with the arguments after it
 abbrev pub lettered : ℕ → List ℕ → Option Call
 lettered c bs =
-    cond (is "R" c) (call 3 bs (λ a. Report (a 1) (a 2)))
+    cond (is "R" c) (call 3 bs (λ a. Report (record { x = a 1; y = a 2 })))
     (cond (is "M" c) (call 1 bs (λ a. Miss))
     (cond (is "O" c) (call 2 bs (λ a. Open (a 1)))
     (cond (is "C" c) (call 2 bs (λ a. Close (a 1)))

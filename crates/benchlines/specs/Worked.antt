@@ -20,7 +20,7 @@ abbrev pub of_badge : ℕ → Event → Option Call
 of_badge b e = Some (record { badge = b; event = e })
 
 pub record GoodLines : Type 0 where
-  pub report : line_call (codes "R 0 2 2") ≡ of_badge 0 (Report 2 2)
+  pub report : line_call (codes "R 0 2 2") ≡ of_badge 0 (Report (record { x = 2; y = 2 }))
   pub miss : line_call (codes "M 1") ≡ of_badge 1 Miss
   pub opens : line_call (codes "O 0 3") ≡ of_badge 0 (Open 3)
   pub closes : line_call (codes "C 0 3") ≡ of_badge 0 (Close 3)

@@ -5,6 +5,7 @@ ghost use Rattle.benchlines.specs.Lines.{line_call};
 
 use crate::arguments::arguments;
 use calls::call::{Call, Event};
+use point::Point;
 
 /// A line has at most so many bytes.
 pub const LONGEST_LINE: usize = 32;
@@ -25,7 +26,7 @@ pub fn call_of(line: &[u8]) -> Option<Call>
             let [badge, x, y] = arguments::<3>(rest, MOST_DIGITS)?;
             Some(Call {
                 badge,
-                event: Event::Report { x, y },
+                event: Event::Report { at: Point { x, y } },
             })
         }
         'M' => {

@@ -9,7 +9,7 @@ use Rattle.calls.specs.Standing.{Standing, nothing_yet}
 -- the position of a track
 abbrev pub track_position : Option Heard → Option (ℕ × ℕ)
 track_position None = None
-track_position (Some t) = Some (t.x, t.y)
+track_position (Some t) = Some (t.at.x, t.at.y)
 
 -- the misses of a track
 abbrev pub track_misses : Option Heard → ℕ

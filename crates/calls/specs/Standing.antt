@@ -33,7 +33,7 @@ one_more (Some p) m = min most_misses (suc m)
 
 -- the standing after an accepted event; a question changes nothing
 abbrev pub moved : Event → Standing → Standing
-moved (Report x y) st = record { position = Some (x, y); misses = 0; opened = st.opened; active = st.active }
+moved (Report p) st = record { position = Some (p.x, p.y); misses = 0; opened = st.opened; active = st.active }
 moved Miss st = record { position = st.position; misses = one_more st.position st.misses; opened = st.opened; active = st.active }
 moved (Open s) st = record { position = st.position; misses = st.misses; opened = λ t. cond (s == t) true (st.opened t); active = st.active }
 moved (Close s) st = record { position = st.position; misses = st.misses; opened = λ t. cond (s == t) false (st.opened t); active = λ t q. cond (s == t) false (st.active t q) }
@@ -46,7 +46,7 @@ moved (Ask s operation object) st = st
 
 -- the sessions and roles that the event names are ones that there can be
 abbrev pub in_range : Event → Bool
-in_range (Report x y) = true
+in_range (Report p) = true
 in_range Miss = true
 in_range (Open s) = nat_lt s session_count
 in_range (Close s) = nat_lt s session_count

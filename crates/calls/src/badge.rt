@@ -6,6 +6,7 @@ ghost use Rattle.calls.specs.Kept.{standing_of, track_only, track_position, trac
 ghost use Rattle.calls.specs.Standing.{moved, moved_within, nothing_yet, most_roles};
 
 use crate::call::Event;
+use point::Point;
 use sets::Set64;
 
 /// Each badge has so many sessions.
@@ -17,8 +18,7 @@ const MOST_MISSES: u8 = 4;
 /// Where a badge was heard last, and how often it was missed since.
 #[derive(Clone, Copy, Debug, PartialEq, Eq)]
 pub struct Heard {
-    pub x: u16,
-    pub y: u16,
+    pub at: Point,
     pub misses: u8,
 }
 
@@ -28,11 +28,10 @@ fn track_after(track: Option<Heard>, event: Event) -> Option<Heard>
     ensures misses { track_misses result ≡ (moved event (track_only track)).misses }
 {
     match (track, event) {
-        (_, Event::Report { x, y }) => Some(Heard { x, y, misses: 0 }),
+        (_, Event::Report { at }) => Some(Heard { at, misses: 0 }),
         (None, Event::Miss) => None,
-        (Some(Heard { x, y, misses }), Event::Miss) => Some(Heard {
-            x,
-            y,
+        (Some(Heard { at, misses }), Event::Miss) => Some(Heard {
+            at,
             misses: misses.saturating_add(1).min(MOST_MISSES),
         }),
         (track, _) => track,

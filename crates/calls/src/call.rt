@@ -1,6 +1,7 @@
 //! What is told and asked of a badge, and what is answered. Numbers are wide, so that a caller has nothing to look at first.
 
 use crate::refusal::Refusal;
+use point::Point;
 use sets::Set64;
 
 /// What a call tells or asks of its badge.
@@ -8,8 +9,7 @@ use sets::Set64;
 pub enum Event {
     /// The badge was heard at a point.
     Report {
-        x: u16,
-        y: u16,
+        at: Point,
     },
     /// A sweep did not hear the badge.
     Miss,

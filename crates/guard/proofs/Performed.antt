@@ -84,7 +84,7 @@ module _ {P : Type 0} (h : Hall) (g : Guard P) (b s operation object : ℕ) (a :
 
 -- a badge that is not known is refused, whatever is told or asked of it
 unknown_reply : (g : Ground) (st : Standing) (b : ℕ) (e : Event) → leb g.content.badges b ≡ true → reply g st (call b e) ≡ Refused UnknownBadge
-unknown_reply g st b (Report x y) past = rw past
+unknown_reply g st b (Report p) past = rw past
 unknown_reply g st b Miss past = rw past
 unknown_reply g st b (Open s) past = rw past
 unknown_reply g st b (Close s) past = rw past

@@ -4,6 +4,7 @@ use crate::dice::{Dice, mixed};
 use calls::refusal::Refusal;
 use guard::guard::Guard;
 use plan::Plan;
+use point::Point;
 
 /// What an answer counts in a sum: a refusal its number.
 fn counted<T, F: FnOnce(T) -> u64>(answer: Result<T, Refusal>, worth: F) -> u64
@@ -31,8 +32,8 @@ pub fn sign_in<P: Plan>(guard: &mut Guard<P>) -> u64 {
 }
 
 /// A sum of which roles are enabled at a point, and which a badge may take.
-fn enabled_at<P: Plan>(guard: &mut Guard<P>, x: u16, y: u16) -> u64 {
-    let heard = counted(guard.report(0, x, y), |()| 0);
+fn enabled_at<P: Plan>(guard: &mut Guard<P>, at: Point) -> u64 {
+    let heard = counted(guard.report(0, at), |()| 0);
     (0..64u16).fold(heard, |sum, role| {
         mixed(sum, u64::from(guard.enabled(0, role).unwrap_or(false)))
     })
@@ -48,7 +49,7 @@ pub fn enabled_all<P: Plan>(guard: &mut Guard<P>, side: u32) -> u64 {
             .wrapping_mul(1 + 2 * (k / 2 % 2))
             .wrapping_add((k / 4).wrapping_mul(quarter / 3))
             % 256;
-        mixed(sum, enabled_at(guard, x as u16, y as u16))
+        mixed(sum, enabled_at(guard, Point { x: x as u16, y: y as u16 }))
     })
 }
 
@@ -62,7 +63,7 @@ fn hear<P: Plan>(guard: &mut Guard<P>, dice: &mut Dice) -> u16 {
     let badge = dice.byte() % 128;
     let x = amid(dice.byte());
     let y = amid(dice.byte());
-    let _ = guard.report(badge, x, y);
+    let _ = guard.report(badge, Point { x, y });
     if dice.byte() % 4 == 0 {
         let _ = guard.miss(badge);
     }
@@ -74,7 +75,7 @@ pub fn report<P: Plan>(guard: &mut Guard<P>, dice: &mut Dice) -> u64 {
     let badge = dice.byte() % 130;
     let x = dice.byte();
     let y = dice.byte();
-    counted(guard.report(badge, x, y), |()| 0)
+    counted(guard.report(badge, Point { x, y }), |()| 0)
 }
 
 /// A badge is heard and asks for a right.

@@ -28,7 +28,7 @@ begun = call 0 (Activate 0 1) ∷ call 0 (Activate 0 0) ∷ call 0 (Open 0) ∷ 
 
 -- and then the badge was heard at the point
 abbrev pub heard : ℕ → ℕ → List Call
-heard x y = call 0 (Report x y) ∷ begun
+heard x y = call 0 (Report (record { x = x; y = y })) ∷ begun
 
 -- and then missed once
 abbrev pub missed : List Call

@@ -17,7 +17,7 @@ data Told (st : Standing) (s r : ℕ) (e : Event) : Type 0 where
 
 module _ (st : Standing) (s r : ℕ) where
   told : (e : Event) → Told st s r e
-  told (Report x y) = silent refl refl
+  told (Report p) = silent refl refl
   told Miss = silent refl refl
   told (Open t) = silent refl refl
   told (Close t) =

@@ -40,7 +40,7 @@ module _ (g : Ground) (b : ℕ) (st : Standing) (live : AllLive g b st) where
   still s r st' h same = let l = live s r h in record { badge = l.badge; session = l.session; role = l.role; opened = same ∙ l.opened }
 
   live_moved : (e : Event) → refusal g st (call b e) ≡ None → AllLive g b (moved e st)
-  live_moved (Report x y) fine s r h = still s r _ h refl
+  live_moved (Report p) fine s r h = still s r _ h refl
   live_moved Miss fine s r h = still s r _ h refl
   live_moved (Open t) fine s r h =
       let l = live s r h in

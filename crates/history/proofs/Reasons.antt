@@ -31,7 +31,7 @@ module _ (g : Ground) (st : Standing) where
       ((past_badge b i _ h).0, session.0, not-false _ opened.0, leb-false _ _ (none_holds (leb (length g.content.roles) r) l o opened.1).0)
 
   known : (b : ℕ) (e : Event) → first_reason (reasons g st b e) ≡ None → b < g.content.badges
-  known b (Report x y) h = (past_badge b _ _ h).0
+  known b (Report p) h = (past_badge b _ _ h).0
   known b Miss h = (past_badge b _ _ h).0
   known b (Open s) h = (past_badge b _ _ h).0
   known b (Close s) h = (past_badge b _ _ h).0
@@ -47,7 +47,7 @@ module _ (g : Ground) (st : Standing) where
   accepted_known c h = known c.badge c.event h
 
   within : (b : ℕ) (e : Event) → first_reason (reasons g st b e) ≡ None → length g.content.roles ≤ most_roles → in_range e ≡ true
-  within b (Report x y) h few = refl
+  within b (Report p) h few = refl
   within b Miss h few = refl
   within b (Open s) h few = lt-ltb _ _ (past_session b s _ _ _ h).0
   within b (Close s) h few = lt-ltb _ _ (past_session b s _ _ _ h).0

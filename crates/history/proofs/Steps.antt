@@ -59,7 +59,7 @@ module _ (b : ℕ) (c : Call) (calls : List Call) where
 module _ (b a : ℕ) (calls : List Call) where
   adds : (e : Event) → added b (record { badge = a; event = e }) calls ≡ moved e (standing calls b)
   unfolding added
-  adds (Report x y) = refl
+  adds (Report p) = refl
   adds Miss = same_standing _ _ refl (missed (position calls b) (missed_since calls b)) (λ _. refl) (λ _ _. refl)
   adds (Open s) = same_standing _ _ refl refl (λ k. said (eqb s k) true _) (λ _ _. refl)
   adds (Close s) = same_standing _ _ refl refl (λ k. said (eqb s k) false _) (λ k q. said (eqb s k) false _)

@@ -18,7 +18,7 @@ latest says (c ∷ calls) = option_or (says c) (latest says calls)
 
 -- the position that an event of a badge says
 abbrev pub says_position : Event → Option (ℕ × ℕ)
-says_position (Report x y) = Some (x, y)
+says_position (Report p) = Some (p.x, p.y)
 says_position Miss = None
 says_position (Open s) = None
 says_position (Close s) = None
@@ -31,7 +31,7 @@ says_position (Ask s operation object) = None
 
 -- whether it says that session t is open or not
 abbrev pub says_open : ℕ → Event → Option Bool
-says_open t (Report x y) = None
+says_open t (Report p) = None
 says_open t Miss = None
 says_open t (Open s) = cond (s == t) (Some true) None
 says_open t (Close s) = cond (s == t) (Some false) None
@@ -44,7 +44,7 @@ says_open t (Ask s operation object) = None
 
 -- whether it says that role q is active in session t or not
 abbrev pub says_active : ℕ → ℕ → Event → Option Bool
-says_active t q (Report x y) = None
+says_active t q (Report p) = None
 says_active t q Miss = None
 says_active t q (Open s) = None
 says_active t q (Close s) = cond (s == t) (Some false) None
@@ -75,7 +75,7 @@ is_active calls b s r = unwrap_or (latest (of b (says_active s r)) calls) false
 
 -- the misses after one event more
 abbrev pub counted : Event → ℕ → ℕ
-counted (Report x y) n = 0
+counted (Report p) n = 0
 counted Miss n = suc n
 counted (Open s) n = n
 counted (Close s) n = n

@@ -20,7 +20,7 @@ call b e = record { badge = b; event = e }
 
 -- the event ends role r in session s: it drops the role there, or closes the session
 abbrev pub ends : ℕ → ℕ → Event → Bool
-ends s r (Report x y) = false
+ends s r (Report p) = false
 ends s r Miss = false
 ends s r (Open t) = false
 ends s r (Close t) = t == s

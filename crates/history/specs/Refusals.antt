@@ -42,7 +42,7 @@ module _ (g : Ground) (st : Standing) where
 
   -- the reasons against an event of badge b
   abbrev pub reasons : ℕ → Event → List Reason
-  reasons b (Report x y) = no_badge b ∷ (not (g.on_floor x y), OffFloor) ∷ []
+  reasons b (Report p) = no_badge b ∷ (not (g.on_floor p.x p.y), OffFloor) ∷ []
   reasons b Miss = no_badge b ∷ []
   reasons b (Open s) = no_badge b ∷ no_session s ∷ (st.opened s, AlreadyOpen) ∷ []
   reasons b (Close s) = no_badge b ∷ no_session s ∷ not_open s ∷ []

@@ -26,7 +26,7 @@ refused_or (Some n) a = Err n
 module _ (g : Ground) (st : Standing) where
   -- the answer to an event that is not refused
   abbrev pub outcome : Event → Answer
-  outcome (Report x y) = Ok Done
+  outcome (Report p) = Ok Done
   outcome Miss = Ok Done
   outcome (Open s) = Ok Done
   outcome (Close s) = Ok Done

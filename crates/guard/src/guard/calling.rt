@@ -16,6 +16,7 @@ use calls::call::Event;
 use calls::refusal::Refusal;
 use decide::judge::refusal;
 use plan::Plan;
+use point::Point;
 
 impl<P: Plan> Guard<P> {
     /// What is kept of a badge; one that is not there was never heard.
@@ -43,11 +44,11 @@ impl<P: Plan> Guard<P> {
     }
 
     /// The badge was heard at a point: this is its position, with no misses.
-    pub fn report(&mut self, badge: u16, x: u16, y: u16) -> Result<(), Refusal>
-        ensures performs { Performs (P.Plan.hall self.old.site.plan) self.old self.new (call badge (Report x y)) (done result) }
-        ensures law { Continues (P.Plan.hall self.old.site.plan) self.old self.new (call badge (Report x y)) (done result) }
+    pub fn report(&mut self, badge: u16, at: Point) -> Result<(), Refusal>
+        ensures performs { Performs (P.Plan.hall self.old.site.plan) self.old self.new (call badge (Report at)) (done result) }
+        ensures law { Continues (P.Plan.hall self.old.site.plan) self.old self.new (call badge (Report at)) (done result) }
     {
-        self.take(badge, Event::Report { x, y })
+        self.take(badge, Event::Report { at })
     }
 
     /// A sweep did not hear the badge: one miss more, up to the most; a badge never heard stays so.

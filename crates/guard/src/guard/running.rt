@@ -89,7 +89,7 @@ impl<P: Plan> Guard<P> {
     {
         let badge = call.badge;
         match call.event {
-            Event::Report { x, y } => told(self.report(badge, x, y)),
+            Event::Report { at } => told(self.report(badge, at)),
             Event::Miss => told(self.miss(badge)),
             Event::Open { session } => told(self.open(badge, session)),
             Event::Close { session } => told(self.close(badge, session)),

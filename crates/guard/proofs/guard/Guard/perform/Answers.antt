@@ -6,7 +6,7 @@ use Rattle.guard.proofs.guard.Guard.perform.Goals as goal
 pub returns-in-Report : goal.returns-in-Report
 returns-in-Report g c =
     let v = c.args.self.now in
-    let both = as_call (g.P.Plan.hall v.site.plan) v c.report.new.self c.args.call (Report c.in-Report.x c.in-Report.y) c.told.result _ c.in-Report.is c.told.ensures c.report.ensures.performs in
+    let both = as_call (g.P.Plan.hall v.site.plan) v c.report.new.self c.args.call (Report c.in-Report.at) c.told.result _ c.in-Report.is c.told.ensures c.report.ensures.performs in
     record { performs = both.0; law = both.1; unsealed = both.2 }
 
 pub returns-in-Miss : goal.returns-in-Miss

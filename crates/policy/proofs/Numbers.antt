@@ -15,20 +15,16 @@ use Rattle.policy.specs.Contents.{Content}
 use Rattle.policy.specs.Rules.{by_kind, least_kind, rises_as, turn_as}
 use Rattle.policy.proofs.Order.{Turned, front, schema, parent, role, schema_permission, role_permission, assignment}
 
+-- the number of the kind that a number names
+abbrev number_or : Option Kind → ℕ → ℕ
+number_or None k = k
+number_or (Some d) k = number_of d
+
+number_back : (k : ℕ) → number_or (kind_named k) k ≡ k
+number_back k = grind (arith, nat_tests)
+
 pub number_named : (k : ℕ) (d : Kind) → kind_named k ≡ Some d → k ≡ number_of d
-number_named k Floor e = grind (arith, nat_tests)
-number_named k Ring e = grind (arith, nat_tests)
-number_named k Corner e = grind (arith, nat_tests)
-number_named k Cells e = grind (arith, nat_tests)
-number_named k Row e = grind (arith, nat_tests)
-number_named k Zone e = grind (arith, nat_tests)
-number_named k Badges e = grind (arith, nat_tests)
-number_named k Schema e = grind (arith, nat_tests)
-number_named k Parent e = grind (arith, nat_tests)
-number_named k Role e = grind (arith, nat_tests)
-number_named k SchemaPermission e = grind (arith, nat_tests)
-number_named k RolePermission e = grind (arith, nat_tests)
-number_named k Assignment e = grind (arith, nat_tests)
+number_named k d e = sym (number_back k) ∙ ap (λ o. number_or o k) e
 
 named_number : (d : Kind) → kind_named (number_of d) ≡ Some d
 named_number Floor = refl

@@ -1,5 +1,5 @@
 -- What reading has shown of a policy's records, and of what is read with one more word.
-use Rattle.std.proofs.Common.{◌≡◌, ℕ, ◌<◌, ◌≤◌, true, [], ◌∷◌, ◌++◌, List, length, ltb, refl, sym, ap, ◌∙◌, subst, arith}
+use Rattle.std.proofs.Common.{◌≡◌, ℕ, ◌<◌, ◌≤◌, true, [], ◌∷◌, ◌++◌, List, length, ltb, refl, sym, ap, ◌∙◌, subst, arith, rules}
 use Rattle.std.proofs.lemmas.List.Elements.{All-push}
 use Rattle.std.proofs.lemmas.Bool.{cond-true, eqb-true}
 use Rattle.wordlist.specs.Fields.{kind_of}
@@ -41,87 +41,40 @@ module _ (c : Content) (w : ℕ) where
   with_word k (front z is) s h =
       let good = sound_badges_turn w (ap (λ n. sound_as n c w) (sym is) ∙ s) in
       let none : c.badges ≡ 0 = eqb-true c.badges 0 z in
-      subst (λ n. Standing (with_as n c w)) (sym is)
-      (record { badges_few = good.1; upward = h.upward; children = h.children; role_schemas = h.role_schemas; owners = h.owners; holders = h.holders; assigned_roles = h.assigned_roles; assigned_badges = below_more (λ a. a.badge) c.badges (badges_of w) c.assignments (omega arith) h.assigned_badges })
+      let badges_few = good.1 in
+      let assigned_badges = below_more (λ a. a.badge) c.badges (badges_of w) c.assignments (omega arith) h.assigned_badges in
+      subst (λ n. Standing (with_as n c w)) (sym is) (search rules)
   with_word k (schema l) s h =
       let more = longer c.schemas (schema_of w) in
-      subst (λ n. Standing (with_as n c w)) (sym l.kind)
-      (record {
-        badges_few = h.badges_few;
-        upward = h.upward;
-        children = below_more (λ p. p.child) _ _ c.parents more h.children;
-        role_schemas = below_more (λ r. r.schema) _ _ c.roles more h.role_schemas;
-        owners = below_more (λ p. p.schema) _ _ c.schema_permissions more h.owners;
-        holders = h.holders;
-        assigned_roles = h.assigned_roles;
-        assigned_badges = h.assigned_badges;
-      })
+      let children = below_more (λ p. p.child) _ _ c.parents more h.children in
+      let role_schemas = below_more (λ r. r.schema) _ _ c.roles more h.role_schemas in
+      let owners = below_more (λ p. p.schema) _ _ c.schema_permissions more h.owners in
+      subst (λ n. Standing (with_as n c w)) (sym l.kind) (search rules)
   with_word k (parent l) s h =
       let good = sound_parent_turn (length c.schemas) w (ap (λ n. sound_as n c w) (sym l.kind) ∙ s) in
-      subst (λ n. Standing (with_as n c w)) (sym l.kind)
-      (record {
-        badges_few = h.badges_few;
-        upward = All-push (λ p. p.parent < p.child) c.parents (parent_of w) h.upward good.0;
-        children = All-push (λ p. p.child < length c.schemas) c.parents (parent_of w) h.children good.1;
-        role_schemas = h.role_schemas;
-        owners = h.owners;
-        holders = h.holders;
-        assigned_roles = h.assigned_roles;
-        assigned_badges = h.assigned_badges;
-      })
+      let upward = All-push (λ p. p.parent < p.child) c.parents (parent_of w) h.upward good.0 in
+      let children = All-push (λ p. p.child < length c.schemas) c.parents (parent_of w) h.children good.1 in
+      subst (λ n. Standing (with_as n c w)) (sym l.kind) (search rules)
   with_word k (role l) s h =
       let good = sound_role_turn (length c.schemas) w (ap (λ n. sound_as n c w) (sym l.kind) ∙ s) in
       let more = longer c.roles (role_of w) in
-      subst (λ n. Standing (with_as n c w)) (sym l.kind)
-      (record {
-        badges_few = h.badges_few;
-        upward = h.upward;
-        children = h.children;
-        role_schemas = All-push (λ r. r.schema < length c.schemas) c.roles (role_of w) h.role_schemas good.0;
-        owners = h.owners;
-        holders = below_more (λ p. p.role) _ _ c.role_permissions more h.holders;
-        assigned_roles = below_more (λ a. a.role) _ _ c.assignments more h.assigned_roles;
-        assigned_badges = h.assigned_badges;
-      })
+      let role_schemas = All-push (λ r. r.schema < length c.schemas) c.roles (role_of w) h.role_schemas good.0 in
+      let holders = below_more (λ p. p.role) _ _ c.role_permissions more h.holders in
+      let assigned_roles = below_more (λ a. a.role) _ _ c.assignments more h.assigned_roles in
+      subst (λ n. Standing (with_as n c w)) (sym l.kind) (search rules)
   with_word k (schema_permission l) s h =
       let good = sound_schema_permission_turn (length c.schemas) w (ap (λ n. sound_as n c w) (sym l.kind) ∙ s) in
-      subst (λ n. Standing (with_as n c w)) (sym l.kind)
-      (record {
-        badges_few = h.badges_few;
-        upward = h.upward;
-        children = h.children;
-        role_schemas = h.role_schemas;
-        owners = All-push (λ p. p.schema < length c.schemas) c.schema_permissions (schema_permission_of w) h.owners good.0;
-        holders = h.holders;
-        assigned_roles = h.assigned_roles;
-        assigned_badges = h.assigned_badges;
-      })
+      let owners = All-push (λ p. p.schema < length c.schemas) c.schema_permissions (schema_permission_of w) h.owners good.0 in
+      subst (λ n. Standing (with_as n c w)) (sym l.kind) (search rules)
   with_word k (role_permission l) s h =
       let good = sound_role_permission_turn (length c.roles) w (ap (λ n. sound_as n c w) (sym l.kind) ∙ s) in
-      subst (λ n. Standing (with_as n c w)) (sym l.kind)
-      (record {
-        badges_few = h.badges_few;
-        upward = h.upward;
-        children = h.children;
-        role_schemas = h.role_schemas;
-        owners = h.owners;
-        holders = All-push (λ p. p.role < length c.roles) c.role_permissions (role_permission_of w) h.holders good.0;
-        assigned_roles = h.assigned_roles;
-        assigned_badges = h.assigned_badges;
-      })
+      let holders = All-push (λ p. p.role < length c.roles) c.role_permissions (role_permission_of w) h.holders good.0 in
+      subst (λ n. Standing (with_as n c w)) (sym l.kind) (search rules)
   with_word k (assignment l) s h =
       let good = sound_assignment_turn (length c.roles) c.badges w (ap (λ n. sound_as n c w) (sym l.kind) ∙ s) in
-      subst (λ n. Standing (with_as n c w)) (sym l.kind)
-      (record {
-        badges_few = h.badges_few;
-        upward = h.upward;
-        children = h.children;
-        role_schemas = h.role_schemas;
-        owners = h.owners;
-        holders = h.holders;
-        assigned_roles = All-push (λ a. a.role < length c.roles) c.assignments (assignment_of w) h.assigned_roles good.0;
-        assigned_badges = All-push (λ a. a.badge < c.badges) c.assignments (assignment_of w) h.assigned_badges good.1;
-      })
+      let assigned_roles = All-push (λ a. a.role < length c.roles) c.assignments (assignment_of w) h.assigned_roles good.0 in
+      let assigned_badges = All-push (λ a. a.badge < c.badges) c.assignments (assignment_of w) h.assigned_badges good.1 in
+      subst (λ n. Standing (with_as n c w)) (sym l.kind) (search rules)
 
   module _ (ok : passing policy_rules c w ≡ true) where
     -- what was read still stands with a word that breaks no rule

@@ -1,4 +1,4 @@
-//! How a list is read into a charter.
+//! How a list is read into a charter. What goes by kind is a match, since each kind has a shelf of its own type.
 
 ghost use Rattle.std.specs.Prelude.{◌≡◌, IfOk};
 ghost use Rattle.wordlist.specs.Fields.{kind_of};

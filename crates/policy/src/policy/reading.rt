@@ -31,6 +31,7 @@ impl Policy {
         ensures draft { content_of self.new.draft ≡ none }
         ensures exactly { result ≡ Ok tt → spelled (says self.new) ≡ words.now }
     {
+        // The other lists read into a draft too, but each starts and keeps its own, of another type.
         self.draft.clear();
         let answer = read(&mut self.draft, words);
         if answer.is_ok() {

@@ -8,12 +8,6 @@ use Rattle.keyed.specs.Orders.{placed, rising}
 use Rattle.keyed.specs.Models.{pair_less}
 use Rattle.keyed.proofs.Fields.{pairs_below}
 use Rattle.records.specs.Keys.{parent_key}
-use Rattle.records.specs.declared.kinds.Schema.{Schema}
-use Rattle.records.specs.declared.kinds.Parent.{Parent}
-use Rattle.records.specs.declared.kinds.Role.{Role}
-use Rattle.records.specs.declared.kinds.SchemaPermission.{SchemaPermission}
-use Rattle.records.specs.declared.kinds.RolePermission.{RolePermission}
-use Rattle.records.specs.declared.kinds.Assignment.{Assignment}
 use Rattle.records.specs.Words.{badges_of, schema_of, parent_of, role_of, schema_permission_of, role_permission_of, assignment_of}
 use Rattle.policy.specs.declared.charter.Charter.{Charter}
 use Rattle.policy.specs.Contents.{Content, content_of}
@@ -84,29 +78,8 @@ module _ (c : Content) (w : ℕ) where
         (with_word (kind_of w) (turned c w (kind_of w) (turn_of c w (kind_of w) refl ok)) (sound_of c w (kind_of w) refl ok) h)
 
     -- a record that was put after the others of its kind
-    taken : {R : Type 0} (k most : ℕ) (put : List R → Content) (xs ys : List R) (x y : R) → kind_of w ≡ k → room_as k c ≡ ltb (length xs) most → put (xs ++ y ∷ []) ≡ with_as k c w → x ≡ y → ys ≡ placed most xs x → put ys ≡ takes policy_rules c w
+    pub taken : {R : Type 0} (k most : ℕ) (put : List R → Content) (xs ys : List R) (x y : R) → kind_of w ≡ k → room_as k c ≡ ltb (length xs) most → put (xs ++ y ∷ []) ≡ with_as k c w → x ≡ y → ys ≡ placed most xs x → put ys ≡ takes policy_rules c w
     taken k most put xs ys x y is fits to same e = took c w k is ok _ (ap put (pushed most xs ys x y same e (sym fits ∙ room_of c w k is ok)) ∙ to)
-
-    pub schema_taken : (ys : List Schema) (x : Schema) → kind_of w ≡ 8 → x ≡ schema_of w → ys ≡ placed 32 c.schemas x → record c { schemas = ys } ≡ takes policy_rules c w
-    schema_taken ys x is = taken 8 32 (λ zs. record c { schemas = zs }) c.schemas ys x (schema_of w) is refl refl
-
-    pub parent_taken : (ys : List Parent) (x : Parent) → kind_of w ≡ 9 → x ≡ parent_of w → ys ≡ placed 64 c.parents x → record c { parents = ys } ≡ takes policy_rules c w
-    parent_taken ys x is = taken 9 64 (λ zs. record c { parents = zs }) c.parents ys x (parent_of w) is refl refl
-
-    pub role_taken : (ys : List Role) (x : Role) → kind_of w ≡ 10 → x ≡ role_of w → ys ≡ placed 64 c.roles x → record c { roles = ys } ≡ takes policy_rules c w
-    role_taken ys x is = taken 10 64 (λ zs. record c { roles = zs }) c.roles ys x (role_of w) is refl refl
-
-    pub schema_permission_taken : (ys : List SchemaPermission) (x : SchemaPermission) → kind_of w ≡ 11 → x ≡ schema_permission_of w → ys ≡ placed 256 c.schema_permissions x → record c { schema_permissions = ys } ≡ takes policy_rules c w
-    schema_permission_taken ys x is = taken 11 256 (λ zs. record c { schema_permissions = zs }) c.schema_permissions ys x (schema_permission_of w) is refl refl
-
-    pub role_permission_taken : (ys : List RolePermission) (x : RolePermission) → kind_of w ≡ 12 → x ≡ role_permission_of w → ys ≡ placed 256 c.role_permissions x → record c { role_permissions = ys } ≡ takes policy_rules c w
-    role_permission_taken ys x is = taken 12 256 (λ zs. record c { role_permissions = zs }) c.role_permissions ys x (role_permission_of w) is refl refl
-
-    pub assignment_taken : (ys : List Assignment) (x : Assignment) → kind_of w ≡ 13 → x ≡ assignment_of w → ys ≡ placed 512 c.assignments x → record c { assignments = ys } ≡ takes policy_rules c w
-    assignment_taken ys x is = taken 13 512 (λ zs. record c { assignments = zs }) c.assignments ys x (assignment_of w) is refl refl
-
-    pub badges_taken : (n : ℕ) → kind_of w ≡ 7 → n ≡ badges_of w → record c { badges = n } ≡ takes policy_rules c w
-    badges_taken n is same = took c w 7 is ok _ (ap (λ m. record c { badges = m }) same)
 
 pub still : (c : Charter) (w : ℕ) (d : Content) → passing policy_rules (content_of c) w ≡ true → d ≡ takes policy_rules (content_of c) w → Standing d
 still c w d ok e = subst Standing (sym e) (standing_with (content_of c) w ok (stands c))

@@ -2,7 +2,7 @@ use Rattle.std.proofs.Common.{◌≡◌, Some, vec_items, refl, sym, ap, ◌∙�
 use Rattle.keyed.specs.Models.{pair_less, triple_less}
 use Rattle.keyed.proofs.Fields.{pairs_below, triples_below}
 use Rattle.records.specs.Keys.{parent_key, role_key, schema_permission_key, role_permission_key, assignment_key}
-use Rattle.records.specs.Words.{parent_of, role_of, schema_permission_of, role_permission_of, assignment_of}
+use Rattle.records.specs.Words.{schema_of, parent_of, role_of, schema_permission_of, role_permission_of, assignment_of}
 use Rattle.wordlist.specs.Fields.{kind_of}
 use Rattle.wordlist.specs.Reading.{takes}
 use Rattle.wordlist.specs.declared.kinds.Kind.TheVariants.{Schema, Parent, Role, SchemaPermission, RolePermission, Assignment}
@@ -11,8 +11,8 @@ use Rattle.policy.specs.Rules.{policy_rules}
 use Rattle.policy.proofs.Growing.{follows_same}
 use Rattle.policy.proofs.Numbers.{number_named, not_named, unnamed}
 use Rattle.policy.proofs.Order.{front_of, turned}
-use Rattle.policy.proofs.Turns.{rises_of, turn_of}
-use Rattle.policy.proofs.Standing.{still, schema_taken, parent_taken, role_taken, schema_permission_taken, role_permission_taken, assignment_taken, badges_taken}
+use Rattle.policy.proofs.Turns.{rises_of, took, turn_of}
+use Rattle.policy.proofs.Standing.{still, taken}
 use Rattle.policy.proofs.charter.reading.CharterWordList.take.Goals.{After-put, After-put-in-Parent, After-put-in-Role, After-put-in-SchemaPermission, After-put-in-RolePermission, After-put-in-Assignment, After-from-in_default-kind}
 use Rattle.policy.proofs.charter.reading.CharterWordList.take.Goals as goal
 
@@ -20,7 +20,8 @@ schema_next : (c : After-put) → record (content_of c.args.self.now) { schemas 
 schema_next c =
     let ok = sym c.passes.ensures ∙ c.if-not-passes.false in
     let is = number_named (kind_of c.args.word) Schema (sym c.of.ensures ∙ c.in-Some.is ∙ ap Some c.in-Schema.is) in
-    schema_taken (content_of c.args.self.now) c.args.word ok (vec_items c.put.new.self.records) c.from.result is c.from.ensures c.put.ensures
+    let m = content_of c.args.self.now in
+    taken m c.args.word ok 8 32 (λ zs. record m { schemas = zs }) m.schemas (vec_items c.put.new.self.records) c.from.result (schema_of c.args.word) is refl refl c.from.ensures c.put.ensures
 
 pub invariant_of-self : goal.invariant_of-self
 invariant_of-self c = let s = still c.args.self.now c.args.word _ (sym c.passes.ensures ∙ c.if-not-passes.false) (schema_next c) in search rules
@@ -41,7 +42,8 @@ parent_next : (c : After-put-in-Parent) → record (content_of c.args.self.now) 
 parent_next c =
     let ok = sym c.passes.ensures ∙ c.if-not-passes.false in
     let is = number_named (kind_of c.args.word) Parent (sym c.of.ensures ∙ c.in-Some.is ∙ ap Some c.in-Parent.is) in
-    parent_taken (content_of c.args.self.now) c.args.word ok (vec_items c.put-in-Parent.new.self.shelf.records) c.from-in-Parent.result is c.from-in-Parent.ensures c.put-in-Parent.ensures
+    let m = content_of c.args.self.now in
+    taken m c.args.word ok 9 64 (λ zs. record m { parents = zs }) m.parents (vec_items c.put-in-Parent.new.self.shelf.records) c.from-in-Parent.result (parent_of c.args.word) is refl refl c.from-in-Parent.ensures c.put-in-Parent.ensures
 
 pub invariant_of-self-in-Parent : goal.invariant_of-self-in-Parent
 invariant_of-self-in-Parent c = let s = still c.args.self.now c.args.word _ (sym c.passes.ensures ∙ c.if-not-passes.false) (parent_next c) in search rules
@@ -62,7 +64,8 @@ role_next : (c : After-put-in-Role) → record (content_of c.args.self.now) { ro
 role_next c =
     let ok = sym c.passes.ensures ∙ c.if-not-passes.false in
     let is = number_named (kind_of c.args.word) Role (sym c.of.ensures ∙ c.in-Some.is ∙ ap Some c.in-Role.is) in
-    role_taken (content_of c.args.self.now) c.args.word ok (vec_items c.put-in-Role.new.self.shelf.records) c.from-in-Role.result is c.from-in-Role.ensures c.put-in-Role.ensures
+    let m = content_of c.args.self.now in
+    taken m c.args.word ok 10 64 (λ zs. record m { roles = zs }) m.roles (vec_items c.put-in-Role.new.self.shelf.records) c.from-in-Role.result (role_of c.args.word) is refl refl c.from-in-Role.ensures c.put-in-Role.ensures
 
 pub invariant_of-self-in-Role : goal.invariant_of-self-in-Role
 invariant_of-self-in-Role c = let s = still c.args.self.now c.args.word _ (sym c.passes.ensures ∙ c.if-not-passes.false) (role_next c) in search rules
@@ -83,7 +86,8 @@ schema_permission_next : (c : After-put-in-SchemaPermission) → record (content
 schema_permission_next c =
     let ok = sym c.passes.ensures ∙ c.if-not-passes.false in
     let is = number_named (kind_of c.args.word) SchemaPermission (sym c.of.ensures ∙ c.in-Some.is ∙ ap Some c.in-SchemaPermission.is) in
-    schema_permission_taken (content_of c.args.self.now) c.args.word ok (vec_items c.put-in-SchemaPermission.new.self.shelf.records) c.from-in-SchemaPermission.result is c.from-in-SchemaPermission.ensures c.put-in-SchemaPermission.ensures
+    let m = content_of c.args.self.now in
+    taken m c.args.word ok 11 256 (λ zs. record m { schema_permissions = zs }) m.schema_permissions (vec_items c.put-in-SchemaPermission.new.self.shelf.records) c.from-in-SchemaPermission.result (schema_permission_of c.args.word) is refl refl c.from-in-SchemaPermission.ensures c.put-in-SchemaPermission.ensures
 
 pub invariant_of-self-in-SchemaPermission : goal.invariant_of-self-in-SchemaPermission
 invariant_of-self-in-SchemaPermission c = let s = still c.args.self.now c.args.word _ (sym c.passes.ensures ∙ c.if-not-passes.false) (schema_permission_next c) in search rules
@@ -104,7 +108,8 @@ role_permission_next : (c : After-put-in-RolePermission) → record (content_of 
 role_permission_next c =
     let ok = sym c.passes.ensures ∙ c.if-not-passes.false in
     let is = number_named (kind_of c.args.word) RolePermission (sym c.of.ensures ∙ c.in-Some.is ∙ ap Some c.in-RolePermission.is) in
-    role_permission_taken (content_of c.args.self.now) c.args.word ok (vec_items c.put-in-RolePermission.new.self.shelf.records) c.from-in-RolePermission.result is c.from-in-RolePermission.ensures c.put-in-RolePermission.ensures
+    let m = content_of c.args.self.now in
+    taken m c.args.word ok 12 256 (λ zs. record m { role_permissions = zs }) m.role_permissions (vec_items c.put-in-RolePermission.new.self.shelf.records) c.from-in-RolePermission.result (role_permission_of c.args.word) is refl refl c.from-in-RolePermission.ensures c.put-in-RolePermission.ensures
 
 pub invariant_of-self-in-RolePermission : goal.invariant_of-self-in-RolePermission
 invariant_of-self-in-RolePermission c = let s = still c.args.self.now c.args.word _ (sym c.passes.ensures ∙ c.if-not-passes.false) (role_permission_next c) in search rules
@@ -125,7 +130,8 @@ assignment_next : (c : After-put-in-Assignment) → record (content_of c.args.se
 assignment_next c =
     let ok = sym c.passes.ensures ∙ c.if-not-passes.false in
     let is = number_named (kind_of c.args.word) Assignment (sym c.of.ensures ∙ c.in-Some.is ∙ ap Some c.in-Assignment.is) in
-    assignment_taken (content_of c.args.self.now) c.args.word ok (vec_items c.put-in-Assignment.new.self.shelf.records) c.from-in-Assignment.result is c.from-in-Assignment.ensures c.put-in-Assignment.ensures
+    let m = content_of c.args.self.now in
+    taken m c.args.word ok 13 512 (λ zs. record m { assignments = zs }) m.assignments (vec_items c.put-in-Assignment.new.self.shelf.records) c.from-in-Assignment.result (assignment_of c.args.word) is refl refl c.from-in-Assignment.ensures c.put-in-Assignment.ensures
 
 pub invariant_of-self-in-Assignment : goal.invariant_of-self-in-Assignment
 invariant_of-self-in-Assignment c = let s = still c.args.self.now c.args.word _ (sym c.passes.ensures ∙ c.if-not-passes.false) (assignment_next c) in search rules
@@ -144,7 +150,7 @@ badges_next c =
     let not = c.in_default-kind in
     let first = front_of m w (turn_of m w k refl ok) (not_named k d Schema named not.not-Schema) (not_named k d Parent named not.not-Parent) (not_named k d Role named not.not-Role)
     (not_named k d SchemaPermission named not.not-SchemaPermission) (not_named k d RolePermission named not.not-RolePermission) (not_named k d Assignment named not.not-Assignment) in
-    badges_taken m w ok c.from-in_default-kind.result.count first.1 (ap (λ b. b.count) c.from-in_default-kind.ensures)
+    took m w 7 first.1 ok _ (ap (λ b. record m { badges = b.count }) c.from-in_default-kind.ensures)
 
 pub invariant_of-self-in_default-kind : goal.invariant_of-self-in_default-kind
 invariant_of-self-in_default-kind c = let s = still c.args.self.now c.args.word _ (sym c.passes.ensures ∙ c.if-not-passes.false) (badges_next c) in search rules

@@ -7,7 +7,7 @@ ghost use Rattle.checks.specs.declared.faults.SealFault.TheVariants.{Record as I
 use wordlist::faults::{RecordFault, Told};
 
 /// The first fault that sealing meets.
-#[derive(Clone, Copy)]
+#[derive(Clone, Copy, Debug, PartialEq, Eq)]
 pub enum SealFault {
     /// The policy's words are refused.
     Record(RecordFault),

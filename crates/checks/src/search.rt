@@ -50,14 +50,14 @@ struct Case<'a> {
 }
 
 impl<'a> Case<'a> {
-    /// A place covers no point.
+    /// The fault of a place that covers no point.
     fn empty(self, place: usize) -> Result<(), SealFault>
         ensures { result_err result ≡ of_case empty self.entry place }
     {
         refuse_if(!self.survey.has_point(place), SealFault::Empty { place })
     }
 
-    /// A role's extent is no place of its schema's extent type.
+    /// The fault of a role whose extent is no place of its schema's extent type.
     fn misplaced(self, role: usize) -> Result<(), SealFault>
         ensures { result_err result ≡ of_case misplaced self.entry role }
     {
@@ -67,7 +67,7 @@ impl<'a> Case<'a> {
         refuse_if(!placed, SealFault::Misplaced { role })
     }
 
-    /// A logic place of the schema lies in no place of its extent type.
+    /// The fault of the first logic place of the schema that lies in no place of its extent type.
     fn outside(self, schema: usize) -> Result<(), SealFault>
         ensures { result_err result ≡ of_case outsides self.entry schema }
     {
@@ -79,7 +79,7 @@ impl<'a> Case<'a> {
         })
     }
 
-    /// A logic place of the schema shares a point with a place of its extent type and does not lie in it.
+    /// The fault of a logic place of the schema that shares a point with a place of its extent type and does not lie in it.
     fn overlap(self, schema: usize, logic: usize, extent: usize) -> Result<(), SealFault>
         ensures { result_err result ≡ of_case overlap self.entry schema logic extent }
     {
@@ -124,7 +124,7 @@ impl<'a> Case<'a> {
         )
     }
 
-    /// The types of a child do not lie in those of its parent.
+    /// The fault of a child whose types do not lie in those of its parent.
     fn unlike(self, k: usize) -> Result<(), SealFault>
         ensures { result_err result ≡ of_case unlike self.entry k }
     {
@@ -139,7 +139,7 @@ impl<'a> Case<'a> {
         )
     }
 
-    /// A parent is less patient than its child.
+    /// The fault of a parent that is less patient than its child.
     fn impatient(self, k: usize) -> Result<(), SealFault>
         ensures { result_err result ≡ of_case impatient self.entry k }
     {

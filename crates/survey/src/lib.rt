@@ -20,6 +20,7 @@ struct Seen {
 /// What is kept of a plan: how many places there are, and of place i entry i.
 #[derive(Clone, Copy)]
 pub struct Survey {
+    // The count stands beside the array: an ArrayVec would join them, but is not Copy, as a survey is.
     count: usize,
     places: [Seen; 64],
 }

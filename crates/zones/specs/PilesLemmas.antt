@@ -1,7 +1,7 @@
 -- Zones piled on places: which place has which number, and what it covers.
-use Rattle.std.specs.Prelude.{◌≡◌, ℕ, zero, suc, ◌+◌, ◌-◌, ◌<◌, ◌≤◌, min, Bool, false, cond, ◌&&◌, ◌⊎◌, List, [], ◌∷◌, length, get_or, take, Some, slice_index_or, refl}
+use Rattle.std.specs.Prelude.{◌≡◌, ℕ, zero, suc, ◌+◌, ◌-◌, ◌<◌, ◌≤◌, min, Bool, false, cond, ◌&&◌, ◌⊎◌, List, [], ◌∷◌, length, get_or, take, Some, None, slice_index_or, refl}
 use Rattle.std.proofs.Common.{⊎_elim, sym, ◌∙◌, ap, arith, length-take}
-use Rattle.std.proofs.lemmas.List.{length_push, get_or_push, get_or_append_left, get_or_past, get_or-take}
+use Rattle.std.proofs.lemmas.List.{length_push, get_or_push, get_or_append_left, get_or_past}
 use Rattle.std.proofs.lemmas.Bool.{lt-ltb, le-ltb, cases_lt}
 use Rattle.plan.specs.Hall.{Hall, Place, nowhere, on_floor, type_at, covers_at, most_places}
 use Rattle.plan.proofs.Rows.{covers_past, covers_off, covers_on}
@@ -49,16 +49,21 @@ module _ (h : Hall) (zs : List Zone) (few : length h.places ≤ most_places) whe
       let m : k < length (zone_hall h zs).places = omega (arith, hall_length h zs few) in
       rw (lt-ltb k (length h.places) l, lt-ltb k (length (zone_hall h zs).places) m, over_low h.places (in_use (length h.places) zs) k l)
 
-  -- place k is zone i, where z is what the list has at i
-  pub zone_at : (i k : ℕ) (z : Zone) → length h.places + i ≡ k → k < length (zone_hall h zs).places → z ≡ slice_index_or zs i z → slice_index_or (zone_hall h zs).places k nowhere ≡ zone_place (zones_over h.places (take i (in_use (length h.places) zs))) z
-  zone_at i k z e l read =
-      let n = length h.places in
-      let within : i < length (in_use n zs) = omega (arith, hall_length h zs few, in_use_length n zs) in
-      over_zone h.places (in_use n zs) i k z within e
-      ∙ ap (zone_place (zones_over h.places (take i (in_use n zs)))) (get_or-take (most_places - n) zs i z (omega (arith, in_use_length n zs)) ∙ sym read)
+  -- place k is zone i in use, where z is what is found at i
+  pub zone_at : (i k : ℕ) (z d : Zone) → length h.places + i ≡ k → i < length (in_use (length h.places) zs) → z ≡ slice_index_or (in_use (length h.places) zs) i d → slice_index_or (zone_hall h zs).places k nowhere ≡ zone_place (zones_over h.places (take i (in_use (length h.places) zs))) z
+  zone_at i k z d e within read =
+      let us = in_use (length h.places) zs in
+      over_zone h.places us i k d within e ∙ ap (zone_place (zones_over h.places (take i us))) (sym read)
 
-  pub type_zone : (i k : ℕ) (z : Zone) → length h.places + i ≡ k → k < length (zone_hall h zs).places → z ≡ slice_index_or zs i z → Some z.ty ≡ type_at (zone_hall h zs) k
-  type_zone i k z e l read = rw (lt-ltb k (length (zone_hall h zs).places) l, zone_at i k z e l read)
+  pub type_zone : (i k : ℕ) (z : Zone) → length h.places + i ≡ k → i < length (in_use (length h.places) zs) → z ≡ slice_index_or (in_use (length h.places) zs) i z → Some z.ty ≡ type_at (zone_hall h zs) k
+  type_zone i k z e within read =
+      let l : k < length (zone_hall h zs).places = omega (arith, over_length h.places (in_use (length h.places) zs)) in
+      rw (lt-ltb k (length (zone_hall h zs).places) l, zone_at i k z z e within read)
+
+  pub type_past : (i k : ℕ) → length h.places + i ≡ k → length (in_use (length h.places) zs) ≤ i → None ≡ type_at (zone_hall h zs) k
+  type_past i k e past =
+      let l : length (zone_hall h zs).places ≤ k = omega (arith, over_length h.places (in_use (length h.places) zs)) in
+      rw (le-ltb k (length (zone_hall h zs).places) l) refl
 
   -- before the first zone, the set has the places below
   pub row_below : (x y s : ℕ) → ((k : ℕ) → member s k ≡ covers_at h k x y) → Filled (λ j. covers_at (zone_hall h zs) j x y) (length h.places) s
@@ -68,20 +73,20 @@ module _ (h : Hall) (zs : List Zone) (few : length h.places ≤ most_places) whe
       (λ j high. e j ∙ covers_past h x y j high)
 
   -- one zone more
-  pub row_zone : (i k x y : ℕ) (z : Zone) (s : ℕ) → x < h.width → y < h.height → length h.places + i ≡ k → k < length (zone_hall h zs).places → z ≡ slice_index_or zs i z → Filled (λ j. covers_at (zone_hall h zs) j x y) k s → in_zone z.rule (member s) ≡ covers_at (zone_hall h zs) k x y
-  row_zone i k x y z s across down e l read filled =
-      let n = length h.places in
-      let us = in_use n zs in
-      let within : i ≤ length us = omega (arith, hall_length h zs few, in_use_length n zs) in
+  pub row_zone : (i k x y : ℕ) (us : List Zone) (d : Zone) (s : ℕ) → x < h.width → y < h.height → length h.places + i ≡ k → us ≡ in_use (length h.places) zs → i < length us → Filled (λ j. covers_at (zone_hall h zs) j x y) k s → in_zone (slice_index_or us i d).rule (member s) ≡ covers_at (zone_hall h zs) k x y
+  row_zone i k x y vs d s across down e same there filled =
+      let us = in_use (length h.places) zs in
+      let z = slice_index_or vs i d in
+      let within : i < length us = omega (arith, there, ap length same) in
       same_zone z.rule (member s) (λ j. (get_or (zones_over h.places (take i us)) j nowhere).covers x y)
       (λ j. filled j ∙ ⊎_elim
       (λ low. ap (λ (b : Bool). cond b (covers_at (zone_hall h zs) j x y) false) (lt-ltb j k low)
       ∙ covers_on (zone_hall h zs) j x y across down
-      ∙ ap (λ (p : Place). p.covers x y) (over_front h.places us i j within (omega arith)))
+      ∙ ap (λ (p : Place). p.covers x y) (over_front h.places us i j (omega arith) (omega arith)))
       (λ high. ap (λ (b : Bool). cond b (covers_at (zone_hall h zs) j x y) false) (le-ltb j k high)
       ∙ sym (ap (λ (p : Place). p.covers x y) (get_or_past (zones_over h.places (take i us)) j nowhere (omega (arith, over_length h.places (take i us), length-take i us)))))
       (cases_lt j k))
-      ∙ sym (covers_on (zone_hall h zs) k x y across down ∙ ap (λ (p : Place). p.covers x y) (zone_at i k z e l read))
+      ∙ sym (covers_on (zone_hall h zs) k x y across down ∙ ap (λ (p : Place). p.covers x y) (zone_at i k z d e within (ap (λ v. slice_index_or v i d) same)))
 
   -- off the floor the set is empty, with zones too
   pub row_off : (x y s : ℕ) → (h.width ≤ x) ⊎ (h.height ≤ y) → ((k : ℕ) → member s k ≡ covers_at h k x y) → (k : ℕ) → member s k ≡ covers_at (zone_hall h zs) k x y

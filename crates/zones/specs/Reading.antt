@@ -1,5 +1,5 @@
 -- How a zone list is read.
-use Rattle.std.specs.Prelude.{ℕ, ◌+◌, true, false, List, [], ◌∷◌, ◌++◌, length, vec_items, Result, ◌==◌, nat_lt}
+use Rattle.std.specs.Prelude.{ℕ, ◌+◌, true, false, List, [], ◌∷◌, ◌++◌, length, Result, ◌==◌, nat_lt}
 use Rattle.plan.specs.Hall.{Hall, most_places}
 use Rattle.wordlist.specs.declared.faults.RecordFault.{RecordFault}
 use Rattle.wordlist.specs.Outcomes.{given, replaced}
@@ -39,7 +39,7 @@ zones_from n ws = given (λ s. s.zones) (read_of zone_rules (start n) ws)
 
 -- what the program holds
 abbrev pub progress_of : Draft → Progress
-progress_of d = record { below = d.below; zones = vec_items d.zones }
+progress_of d = record { below = d.below; zones = d.zones.records.items }
 
 -- what a plan with a list put over it means: refused words add no zone
 abbrev pub pile_from : Hall → List ℕ → Hall

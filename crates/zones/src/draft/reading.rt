@@ -1,13 +1,18 @@
 //! How a zone list is read into a draft.
 
-ghost use Rattle.std.specs.Prelude.{◌≡◌, ◌+◌, ◌≤◌, [], length, IfOk, vec_capacity};
+ghost use Rattle.std.specs.Prelude.{◌≡◌, ◌+◌, ◌≤◌, List, length, IfOk};
 ghost use Rattle.plan.specs.Hall.{most_places};
-ghost use Rattle.zones.specs.Reading.{Progress, progress_of, start, zone_rules};
+ghost use Rattle.wordlist.specs.Given.{given_from};
+ghost use Rattle.zones.specs.declared.zone.Zone.{Zone as Kept};
+ghost use Rattle.zones.specs.Reading.{Progress, progress_of, start, zone_rules, zones_from};
 
 use super::super::zone::Zone;
 use super::Draft;
+use keyed::shelf::Shelf;
 use std::alloc::{AllocError, Global};
 use std::mem::swap;
+use wordlist::keeping::Drafted;
+use wordlist::kinds::Kind;
 use wordlist::list::WordList;
 
 impl Draft {
@@ -16,33 +21,13 @@ impl Draft {
         requires { below ≤ most_places }
         ensures { IfOk result (λ d. progress_of d ≡ start below) }
     {
-        let zones = Vec::with_capacity(heap, 64)?;
+        let zones = Shelf::new(heap)?;
         Ok(Draft { below, zones })
-    }
-
-    /// Starts anew, over so many places.
-    pub(crate) fn start(&mut self, below: usize)
-        requires { below ≤ most_places }
-        ensures { progress_of self.new ≡ start below }
-    {
-        self.zones.clear();
-        self.below = below;
-    }
-
-    /// Gives its zones in exchange for those that they replace, which are let go.
-    pub(crate) fn exchange(&mut self, zones: &mut Vec<Zone>)
-        requires { most_places ≤ vec_capacity zones.old }
-        ensures given { zones.new.items ≡ self.old.zones.items }
-        ensures room { most_places ≤ vec_capacity zones.new }
-        ensures left { progress_of self.new ≡ start self.old.below }
-    {
-        zones.clear();
-        swap(&mut self.zones, zones);
     }
 
     /// The number that the next zone will have.
     fn number(&self) -> usize
-        ensures { result ≡ self.now.below + length self.now.zones.items }
+        ensures { result ≡ self.now.below + length self.now.zones.records.items }
     {
         self.below + self.zones.len()
     }
@@ -56,7 +41,7 @@ impl WordList for Draft {
     ghost state = { progress_of };
 
     fn belongs(&self, kind: u32) -> bool {
-        kind == 6
+        kind == Kind::Zone.number()
     }
 
     fn in_turn(&self, _word: u32) -> bool {
@@ -73,11 +58,41 @@ impl WordList for Draft {
 
     fn take(&mut self, word: u32) {
         if self.has_room(word) && self.is_sound(word) {
-            self.zones.push_reserved(Zone::of(word));
+            self.zones.put(Zone::from(word));
         }
     }
 
     fn owes(&self) -> bool {
         false
+    }
+}
+
+impl Drafted for Draft {
+    type Ground = usize;
+
+    type Kept = Shelf<Zone, 64>;
+
+    ghost Content = { List Kept };
+
+    ghost content = { λ d. d.zones.records.items };
+
+    ghost said = { λ s. s.records.items };
+
+    ghost bears = { λ below. below ≤ most_places };
+
+    ghost begun = { λ below d. progress_of d ≡ start below };
+
+    ghost outcome = { zones_from };
+
+    ghost reads = { λ below d e a ws. given_from progress_of (λ s. s.zones) zone_rules (start below) d e a ws };
+
+    fn begin(&mut self, below: usize) {
+        self.zones.clear();
+        self.below = below;
+    }
+
+    fn exchange(&mut self, zones: &mut Shelf<Zone, 64>) {
+        zones.clear();
+        swap(&mut self.zones, zones);
     }
 }

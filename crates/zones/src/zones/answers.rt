@@ -1,29 +1,31 @@
 //! What a plan with zones over it answers.
 
 ghost use Rattle.std.specs.Prelude.{◌≡◌, length};
-ghost use Rattle.zones.specs.Piles.{zone_hall};
+ghost use Rattle.zones.specs.Piles.{in_use as used, zone_hall};
 ghost use Rattle.std.proofs.Common.{arith, rules};
 ghost use Rattle.zones.specs.PilesLemmas.{hall_length};
 
+use super::super::zone::Zone;
 use super::Zones;
 use plan::Plan;
 use sets::Set64;
 
 impl<P: Plan> Zones<P> {
-    /// How many places there are, those below and the zones.
-    fn number(&self) -> usize
-        ensures { result ≡ length (zone_hall (P.hall self.now.below) (self.now.zones.items)).places }
+    /// The zones in use; with the places below they are 64 at the most.
+    fn in_use(&self) -> &[Zone]
+        ensures { result.now ≡ used (length (P.hall self.now.below).places) self.now.zones.records.items }
     {
-        (self.below.count() + self.zones.len()).min(64)
+        let zones = self.zones.records();
+        &zones[..zones.len().min(64 - self.below.count())]
     }
 }
 
 impl<P: Plan> Plan for Zones<P> {
-    ghost hall = { λ z. zone_hall (P.Plan.hall z.below) z.zones.items };
+    ghost hall = { λ z. zone_hall (P.Plan.hall z.below) z.zones.records.items };
 
     ghost floor = { first_of (Prim.search rules, Prim.grind (arith, Self.row.coded.inj)) };
 
-    ghost few = { λ p. omega (arith, hall_length (P.Plan.hall p.below) p.zones.items (P.Plan.few p.below)) };
+    ghost few = { λ p. omega (arith, hall_length (P.Plan.hall p.below) p.zones.records.items (P.Plan.few p.below)) };
 
     fn width(&self) -> u16 {
         self.below.width()
@@ -34,18 +36,14 @@ impl<P: Plan> Plan for Zones<P> {
     }
 
     fn count(&self) -> usize {
-        self.number()
+        self.below.count() + self.in_use().len()
     }
 
     fn type_of(&self, place: usize) -> Option<u8> {
-        let first = self.below.count();
-        if place < first {
-            return self.below.type_of(place);
+        match place.checked_sub(self.below.count()) {
+            None => self.below.type_of(place),
+            Some(k) => self.in_use().get(k).map(|zone| zone.ty),
         }
-        if place >= self.number() {
-            return None;
-        }
-        Some(self.zones[place - first].ty)
     }
 
     fn covers(&self, place: usize, x: u16, y: u16) -> bool {
@@ -59,9 +57,9 @@ impl<P: Plan> Plan for Zones<P> {
             return covering;
         }
         let first = self.below.count();
-        for k in first..self.number() {
-            if self.zones[k - first].rule.holds(covering) {
-                covering = covering.with(k);
+        for (k, zone) in self.in_use().iter().enumerate() {
+            if zone.rule.holds(covering) {
+                covering = covering.with(first + k);
             }
         }
         covering

@@ -8,18 +8,19 @@ ghost use Rattle.zones.specs.Words.{zone_word};
 
 use super::super::draft::Draft;
 use super::Zones;
+use keyed::shelf::Shelf;
 use plan::Plan;
 use std::alloc::Global;
 use wordlist::faults::RecordFault;
-use wordlist::list::read;
+use wordlist::keeping::keep;
 
 impl<P: Plan> Zones<P> {
     /// The plan alone, with no zone over it. All the memory that the zones will use is taken here;
     /// where there is none, the plan comes back.
     pub fn over(heap: Global, below: P) -> Result<Zones<P>, P>
-        ensures { elim result [ Ok z ↦ (z.below ≡ below) × (z.zones.items ≡ []) × (progress_of z.draft ≡ start (length (P.hall below).places)) | Err back ↦ back ≡ below ] }
+        ensures { elim result [ Ok z ↦ (z.below ≡ below) × (z.zones.records.items ≡ []) × (progress_of z.draft ≡ start (length (P.hall below).places)) | Err back ↦ back ≡ below ] }
     {
-        let Ok(zones) = Vec::with_capacity(heap, 64) else {
+        let Ok(zones) = Shelf::new(heap) else {
             return Err(below);
         };
         let Ok(draft) = Draft::new(heap, below.count()) else {
@@ -35,20 +36,14 @@ impl<P: Plan> Zones<P> {
     /// The zones become those that the words say; refused words leave them as they were.
     pub fn read(&mut self, words: &[u32]) -> Result<(), RecordFault>
         ensures answer { result ≡ answered (zones_from (length (P.hall self.old.below).places) words.now) }
-        ensures after { self.new.zones.items ≡ replaced self.old.zones.items (zones_from (length (P.hall self.old.below).places) words.now) }
+        ensures after { self.new.zones.records.items ≡ replaced self.old.zones.records.items (zones_from (length (P.hall self.old.below).places) words.now) }
         ensures below { self.new.below ≡ self.old.below }
         ensures draft { progress_of self.new.draft ≡ start (length (P.hall self.old.below).places) }
-        ensures exactly { result ≡ Ok tt → map zone_word self.new.zones.items ≡ words.now }
-        ensures all { result ≡ Ok tt → in_use (length (P.hall self.old.below).places) self.new.zones.items ≡ self.new.zones.items }
+        ensures exactly { result ≡ Ok tt → map zone_word self.new.zones.records.items ≡ words.now }
+        ensures all { result ≡ Ok tt → in_use (length (P.hall self.old.below).places) self.new.zones.records.items ≡ self.new.zones.records.items }
     {
         let places = self.below.count();
-        self.draft.start(places);
-        let answer = read(&mut self.draft, words);
-        if answer.is_ok() {
-            self.draft.exchange(&mut self.zones);
-        }
-        self.draft.start(places);
-        answer
+        keep(&mut self.draft, places, &mut self.zones, words)
     }
 
     /// The plan below, as it was.

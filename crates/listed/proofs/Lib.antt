@@ -1,4 +1,2 @@
-pub mod Blanks
-pub mod Heads
 pub mod Exactly
 pub mod Found

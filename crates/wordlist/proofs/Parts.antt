@@ -1,30 +1,7 @@
 -- What a cut leaves.
-use Rattle.std.proofs.Common.{◌≡◌, ℕ, ◌<◌, min, Bool, true, false, cond, eqb, List, [], ◌∷◌, ◌++◌, length, take, drop, Some, sym, refl, ap, ◌∙◌, subst, ⊎_elim, arith, length-drop, take-append-drop}
-use Rattle.std.proofs.lemmas.List.{take_all, drop_all}
-use Rattle.std.proofs.lemmas.Bool.{cases_lt}
+use Rattle.std.proofs.Common.{◌≡◌, ℕ, ◌<◌, Bool, true, false, cond, eqb, List, [], ◌∷◌, ◌++◌, length, take, drop, Some, refl, ap, subst, arith, length-drop, take-append-drop}
 use Rattle.wordlist.specs.Fields.{field, kind_of}
 use Rattle.wordlist.specs.Cutting.{Cut, plain, drawn, cells, body_of, cut_of, cut_at, left_of, index_of, words_of}
-
-pub take_min : (n : ℕ) (ws : List ℕ) → take (min n (length ws)) ws ≡ take n ws
-take_min n ws =
-    ⊎_elim
-    (λ lt. let e : min n (length ws) ≡ n = omega arith in ap (λ k. take k ws) e)
-    (λ le. let e : min n (length ws) ≡ length ws = omega arith in ap (λ k. take k ws) e ∙ take_all (length ws) ws (omega arith) ∙ sym (take_all n ws le))
-    (cases_lt n (length ws))
-
-pub drop_min : (n : ℕ) (ws : List ℕ) → drop (min n (length ws)) ws ≡ drop n ws
-drop_min n ws =
-    ⊎_elim
-    (λ lt. let e : min n (length ws) ≡ n = omega arith in ap (λ k. drop k ws) e)
-    (λ le. let e : min n (length ws) ≡ length ws = omega arith in ap (λ k. drop k ws) e ∙ drop_all (length ws) ws (omega arith) ∙ sym (drop_all n ws le))
-    (cases_lt n (length ws))
-
--- a list is its first word and the others, and what a cut of it gives
-pub cut_is : (i h n : ℕ) (ws rest body : List ℕ) → ws ≡ h ∷ rest → n ≡ body_of h → body ≡ take n rest → Some (cut_at i h body) ≡ cut_of i ws
-cut_is i h n ws rest body e k b = ap (λ x. Some (cut_at i h x)) (b ∙ ap (λ m. take m rest) k) ∙ sym (ap (cut_of i) e)
-
-pub left_is : (h n : ℕ) (ws rest left : List ℕ) → ws ≡ h ∷ rest → n ≡ body_of h → left ≡ drop n rest → left ≡ left_of ws
-left_is h n ws rest left e k l = l ∙ ap (λ m. drop m rest) k ∙ sym (ap left_of e)
 
 parts : (two four : Bool) (i h n : ℕ) (rest : List ℕ) →
     let b : ℕ = cond two n (cond four 16 0) in

@@ -8,6 +8,7 @@ ghost use Rattle.zones.specs.PilesLemmas.{hall_length};
 use super::super::zone::Zone;
 use super::Zones;
 use plan::Plan;
+use point::Point;
 use sets::Set64;
 
 impl<P: Plan> Zones<P> {
@@ -46,14 +47,14 @@ impl<P: Plan> Plan for Zones<P> {
         }
     }
 
-    fn covers(&self, place: usize, x: u16, y: u16) -> bool {
-        self.places_at(x, y).has(place)
+    fn covers(&self, place: usize, at: Point) -> bool {
+        self.places_at(at).has(place)
     }
 
     /// Goes once through the zones by rising number, so that each rule finds its places decided.
-    fn places_at(&self, x: u16, y: u16) -> Set64 {
-        let mut covering = self.below.places_at(x, y);
-        if x >= self.below.width() || y >= self.below.height() {
+    fn places_at(&self, at: Point) -> Set64 {
+        let mut covering = self.below.places_at(at);
+        if at.x >= self.below.width() || at.y >= self.below.height() {
             return covering;
         }
         let first = self.below.count();

@@ -1,6 +1,7 @@
 -- What holds of a policy that was read from words, and that a sealed one was read and has no fault.
 use Rattle.std.proofs.Common.{◌≡◌, ℕ, ◌+◌, ◌<◌, ◌≤◌, Bool, true, false, cond, eqb, List, [], ◌∷◌, length, Some, None, Ok, Err, Option, Result, sym, refl, ap, ◌∙◌, subst, arith}
 use Rattle.std.proofs.lemmas.Bool.{eqb-true}
+use Rattle.std.proofs.lemmas.List.Elements.{All-push}
 use Rattle.wordlist.specs.declared.faults.RecordFault.{RecordFault}
 use Rattle.wordlist.specs.declared.faults.RecordFault.TheVariants.{Word, OutOfTurn, Full, BadField}
 use Rattle.wordlist.specs.declared.faults.WordFault.TheVariants.{Short, Foreign}
@@ -16,7 +17,7 @@ use Rattle.policy.specs.Contents.{Content, none}
 use Rattle.policy.specs.Facts.{Upward, SchemasIn}
 use Rattle.policy.specs.Reading.{content_from}
 use Rattle.policy.specs.Rules.{policy_rules, grown, sound_as, with_as}
-use Rattle.policy.proofs.Growing.{longer, below_push, below_more, upward_push}
+use Rattle.policy.proofs.Growing.{longer, below_more}
 use Rattle.policy.proofs.Turns.{sound_parent_turn, sound_role_turn}
 use Rattle.checks.specs.declared.faults.SealFault.{SealFault}
 use Rattle.checks.specs.Sight.{sight_of}
@@ -29,15 +30,15 @@ Kept c = Upward c.parents × SchemasIn (length c.schemas) c.roles
 
 -- lists of records with one more, or as they were
 upward_grown : (b : Bool) (ps : List Parent) (p : Parent) → Upward ps → (b ≡ true → p.parent < p.child) → Upward (grown b ps p)
-upward_grown true ps p h ok = upward_push ps (grown true ps p) p refl h (ok refl)
+upward_grown true ps p h ok = All-push (λ (q : Parent). q.parent < q.child) ps p h (ok refl)
 upward_grown false ps p h ok = h
 
 longer_grown : (b : Bool) (ss : List Schema) (s : Schema) → length ss ≤ length (grown b ss s)
-longer_grown true ss s = longer ss (grown true ss s) s refl
+longer_grown true ss s = longer ss s
 longer_grown false ss s = omega arith
 
 schemas_grown : (b : Bool) (n : ℕ) (rs : List Role) (r : Role) → SchemasIn n rs → (b ≡ true → r.schema < n) → SchemasIn n (grown b rs r)
-schemas_grown true n rs r h ok = below_push rs (grown true rs r) r refl (λ x. x.schema) n h (ok refl)
+schemas_grown true n rs r h ok = All-push (λ (q : Role). q.schema < n) rs r h (ok refl)
 schemas_grown false n rs r h ok = h
 
 module _ (c : Content) (w : ℕ) where

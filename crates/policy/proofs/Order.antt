@@ -1,29 +1,22 @@
 -- The kinds that may stand at a place of the list, and what is not there yet.
 use Rattle.std.proofs.Common.{◌≡◌, ℕ, ◌≤◌, Bool, true, false, cond, ◌&&◌, eqb, leb, [], sym, refl, ap, ◌∙◌, arith, leb-true}
 use Rattle.std.proofs.lemmas.List.{nil_from_length}
-use Rattle.std.proofs.lemmas.Bool.{and_parts, eqb-true, le-leb}
+use Rattle.std.proofs.lemmas.Bool.{and_parts, both_ways, eqb-true, le-leb}
 use Rattle.std.proofs.lemmas.Bool.Decides.{nat_tests}
 use Rattle.wordlist.specs.Fields.{kind_of}
 use Rattle.policy.specs.Contents.{Content}
 use Rattle.policy.specs.Rules.{turn_as, rises_as, least_kind}
 
 -- one of six tests holds
-pub data Which (a b c d e f : Bool) : Type 0 where
-  first : a ≡ true → Which a b c d e f
-  second : b ≡ true → Which a b c d e f
-  third : c ≡ true → Which a b c d e f
-  fourth : d ≡ true → Which a b c d e f
-  fifth : e ≡ true → Which a b c d e f
-  sixth : f ≡ true → Which a b c d e f
-
-which : (a b c d e f : Bool) (u v w x y z : Bool) → cond a u (cond b v (cond c w (cond d x (cond e y (cond f z false))))) ≡ true → Which a b c d e f
-which true b c d e f u v w x y z h = first refl
-which false true c d e f u v w x y z h = second refl
-which false false true d e f u v w x y z h = third refl
-which false false false true e f u v w x y z h = fourth refl
-which false false false false true f u v w x y z h = fifth refl
-which false false false false false true u v w x y z h = sixth refl
-which false false false false false false u v w x y z h = absurd (let o : ◌≡◌ {A = ℕ} 0 1 = cc in omega arith)
+pick : {X : Type 0} (a b c d e f u v w x y z : Bool) → cond a u (cond b v (cond c w (cond d x (cond e y (cond f z false))))) ≡ true
+    → (a ≡ true → X) → (b ≡ true → X) → (c ≡ true → X) → (d ≡ true → X) → (e ≡ true → X) → (f ≡ true → X) → X
+pick true b c d e f u v w x y z h p q r s t o = p refl
+pick false true c d e f u v w x y z h p q r s t o = q refl
+pick false false true d e f u v w x y z h p q r s t o = r refl
+pick false false false true e f u v w x y z h p q r s t o = s refl
+pick false false false false true f u v w x y z h p q r s t o = t refl
+pick false false false false false true u v w x y z h p q r s t o = o refl
+pick false false false false false false u v w x y z h p q r s t o = absurd (both_ways false refl h)
 
 -- a word of kind k after the badges: kinds of n and above have no record yet where k is n
 pub record Later (c : Content) (k n : ℕ) : Type 0 where
@@ -45,19 +38,13 @@ module _ (c : Content) (w : ℕ) where
   later : (k n : ℕ) → eqb c.badges 0 ≡ false → leb (least_kind c) k ≡ true → eqb k n ≡ true → Later c k n
   later k n b l e = let is = eqb-true k n e in record { kind = is; badges = b; least = ap (λ m. leb (least_kind c) m) (sym is) ∙ l }
 
-  by_which : (k : ℕ) → eqb c.badges 0 ≡ false → leb (least_kind c) k ≡ true → Which (eqb k 8) (eqb k 9) (eqb k 10) (eqb k 11) (eqb k 12) (eqb k 13) → Turned c k
-  by_which k b l (first e) = schema (later k 8 b l e)
-  by_which k b l (second e) = parent (later k 9 b l e)
-  by_which k b l (third e) = role (later k 10 b l e)
-  by_which k b l (fourth e) = schema_permission (later k 11 b l e)
-  by_which k b l (fifth e) = role_permission (later k 12 b l e)
-  by_which k b l (sixth e) = assignment (later k 13 b l e)
-
   turned_by : (k : ℕ) (b : Bool) → eqb c.badges 0 ≡ b → cond b (eqb k 7) (leb (least_kind c) k && rises_as k c w) ≡ true → Turned c k
   turned_by k true is e = front is (eqb-true k 7 e)
   turned_by k false is e =
       let p = and_parts (leb (least_kind c) k) (rises_as k c w) e in
-      by_which k is p.0 (which (eqb k 8) (eqb k 9) (eqb k 10) (eqb k 11) (eqb k 12) (eqb k 13) _ _ _ _ _ _ p.1)
+      pick (eqb k 8) (eqb k 9) (eqb k 10) (eqb k 11) (eqb k 12) (eqb k 13) _ _ _ _ _ _ p.1
+      (λ e. schema (later k 8 is p.0 e)) (λ e. parent (later k 9 is p.0 e)) (λ e. role (later k 10 is p.0 e))
+      (λ e. schema_permission (later k 11 is p.0 e)) (λ e. role_permission (later k 12 is p.0 e)) (λ e. assignment (later k 13 is p.0 e))
 
   -- a word in its turn
   pub turned : (k : ℕ) → turn_as k c w ≡ true → Turned c k

@@ -23,6 +23,10 @@ follows less key (x ∷ y ∷ ys) k = follows less key (y ∷ ys) k
 abbrev pub placed : {R : Type 0} → ℕ → List R → R → List R
 placed most xs x = cond (nat_lt (length xs) most) (xs ++ x ∷ []) xs
 
+-- the same, if its key may also follow
+abbrev pub placed_rising : {R K : Type 0} → (K → K → Bool) → (R → K) → ℕ → List R → R → List R
+placed_rising less key most xs x = cond (follows less key xs (key x)) (placed most xs x) xs
+
 -- two keys are the same: neither is below the other
 abbrev pub alike : {K : Type 0} → (K → K → Bool) → K → K → Bool
 alike less a b = not (less a b) && not (less b a)

@@ -1,7 +1,7 @@
 //! A shelf whose keys rise.
 
 ghost use Rattle.std.specs.Prelude.{◌≡◌, true, [], IfOk};
-ghost use Rattle.keyed.specs.Orders.{below, follows, has as has_key, placed, rising};
+ghost use Rattle.keyed.specs.Orders.{below, follows, has as has_key, placed_rising, rising};
 
 use super::keys::Keyed;
 use super::shelf::Shelf;
@@ -38,12 +38,13 @@ impl<R: Keyed + Drop, const MOST: usize> Rising<R, MOST> {
         may_follow(self.shelf.records(), &record.key())
     }
 
-    /// Puts a record after the others; one that does not fit changes nothing.
+    /// Puts a record after the others; one that does not fit, or whose key may not follow, changes nothing.
     pub fn put(&mut self, record: R)
-        requires { follows (below R.Key.cmp) R.keyed self.old.shelf.records.items (R.keyed «record») ≡ true }
-        ensures { self.new.shelf.records.items ≡ placed MOST self.old.shelf.records.items «record» }
+        ensures { self.new.shelf.records.items ≡ placed_rising (below R.Key.cmp) R.keyed MOST self.old.shelf.records.items «record» }
     {
-        self.shelf.put(record);
+        if self.rises(&record) {
+            self.shelf.put(record);
+        }
     }
 
     /// Takes all records away.
@@ -91,9 +92,7 @@ mod tests {
             let entry = Entry {
                 at: Pair { high, low },
             };
-            if shelf.rises(&entry) {
-                shelf.put(entry);
-            }
+            shelf.put(entry);
         }
         assert_eq!(rt; shelf.shelf().len(), 2);
         assert!(rt; all_rise(shelf.shelf().records()));

@@ -1,4 +1,5 @@
 use Rattle.std.proofs.Common.{◌≡◌, Some, vec_items, refl, sym, ap, ◌∙◌, arith, rules}
+use Rattle.std.proofs.lemmas.Bool.{cond-true}
 use Rattle.keyed.specs.Models.{pair_less, triple_less}
 use Rattle.keyed.proofs.Fields.{pairs_below, triples_below}
 use Rattle.records.specs.Keys.{parent_key, role_key, schema_permission_key, role_permission_key, assignment_key}
@@ -29,21 +30,13 @@ invariant_of-self c = let s = still c.args.self.now c.args.word _ (sym c.passes.
 pub returns-in-Schema : goal.returns-in-Schema
 returns-in-Schema c = schema_next (goal.at.returns-in-Schema c).After-put
 
-pub put-requires-in-Parent : goal.put-requires-in-Parent
-put-requires-in-Parent c =
-    let ok = sym c.passes.ensures ∙ c.if-not-passes.false in
-    let is = number_named (kind_of c.args.word) Parent (sym c.of.ensures ∙ c.in-Some.is ∙ ap Some c.in-Parent.is) in (
-      omega arith,
-      follows_same _ pair_less parent_key (vec_items c.args.self.now.parents.shelf.records) c.from-in-Parent.result (parent_of c.args.word) pairs_below c.from-in-Parent.ensures
-          ∙ rises_of (content_of c.args.self.now) c.args.word 9 is ok refl,
-    )
-
 parent_next : (c : After-put-in-Parent) → record (content_of c.args.self.now) { parents = vec_items c.put-in-Parent.new.self.shelf.records } ≡ takes policy_rules (content_of c.args.self.now) c.args.word
 parent_next c =
     let ok = sym c.passes.ensures ∙ c.if-not-passes.false in
     let is = number_named (kind_of c.args.word) Parent (sym c.of.ensures ∙ c.in-Some.is ∙ ap Some c.in-Parent.is) in
+    let follows = follows_same _ pair_less parent_key (vec_items c.args.self.now.parents.shelf.records) c.from-in-Parent.result (parent_of c.args.word) pairs_below c.from-in-Parent.ensures ∙ rises_of (content_of c.args.self.now) c.args.word 9 is ok refl in
     let m = content_of c.args.self.now in
-    taken m c.args.word ok 9 64 (λ zs. record m { parents = zs }) m.parents (vec_items c.put-in-Parent.new.self.shelf.records) c.from-in-Parent.result (parent_of c.args.word) is refl refl c.from-in-Parent.ensures c.put-in-Parent.ensures
+    taken m c.args.word ok 9 64 (λ zs. record m { parents = zs }) m.parents (vec_items c.put-in-Parent.new.self.shelf.records) c.from-in-Parent.result (parent_of c.args.word) is refl refl c.from-in-Parent.ensures (c.put-in-Parent.ensures ∙ cond-true _ _ _ follows)
 
 pub invariant_of-self-in-Parent : goal.invariant_of-self-in-Parent
 invariant_of-self-in-Parent c = let s = still c.args.self.now c.args.word _ (sym c.passes.ensures ∙ c.if-not-passes.false) (parent_next c) in search rules
@@ -51,21 +44,13 @@ invariant_of-self-in-Parent c = let s = still c.args.self.now c.args.word _ (sym
 pub returns-in-Parent : goal.returns-in-Parent
 returns-in-Parent c = parent_next (goal.at.returns-in-Parent c).After-put-in-Parent
 
-pub put-requires-in-Role : goal.put-requires-in-Role
-put-requires-in-Role c =
-    let ok = sym c.passes.ensures ∙ c.if-not-passes.false in
-    let is = number_named (kind_of c.args.word) Role (sym c.of.ensures ∙ c.in-Some.is ∙ ap Some c.in-Role.is) in (
-      omega arith,
-      follows_same _ pair_less role_key (vec_items c.args.self.now.roles.shelf.records) c.from-in-Role.result (role_of c.args.word) pairs_below c.from-in-Role.ensures
-          ∙ rises_of (content_of c.args.self.now) c.args.word 10 is ok refl,
-    )
-
 role_next : (c : After-put-in-Role) → record (content_of c.args.self.now) { roles = vec_items c.put-in-Role.new.self.shelf.records } ≡ takes policy_rules (content_of c.args.self.now) c.args.word
 role_next c =
     let ok = sym c.passes.ensures ∙ c.if-not-passes.false in
     let is = number_named (kind_of c.args.word) Role (sym c.of.ensures ∙ c.in-Some.is ∙ ap Some c.in-Role.is) in
+    let follows = follows_same _ pair_less role_key (vec_items c.args.self.now.roles.shelf.records) c.from-in-Role.result (role_of c.args.word) pairs_below c.from-in-Role.ensures ∙ rises_of (content_of c.args.self.now) c.args.word 10 is ok refl in
     let m = content_of c.args.self.now in
-    taken m c.args.word ok 10 64 (λ zs. record m { roles = zs }) m.roles (vec_items c.put-in-Role.new.self.shelf.records) c.from-in-Role.result (role_of c.args.word) is refl refl c.from-in-Role.ensures c.put-in-Role.ensures
+    taken m c.args.word ok 10 64 (λ zs. record m { roles = zs }) m.roles (vec_items c.put-in-Role.new.self.shelf.records) c.from-in-Role.result (role_of c.args.word) is refl refl c.from-in-Role.ensures (c.put-in-Role.ensures ∙ cond-true _ _ _ follows)
 
 pub invariant_of-self-in-Role : goal.invariant_of-self-in-Role
 invariant_of-self-in-Role c = let s = still c.args.self.now c.args.word _ (sym c.passes.ensures ∙ c.if-not-passes.false) (role_next c) in search rules
@@ -73,21 +58,13 @@ invariant_of-self-in-Role c = let s = still c.args.self.now c.args.word _ (sym c
 pub returns-in-Role : goal.returns-in-Role
 returns-in-Role c = role_next (goal.at.returns-in-Role c).After-put-in-Role
 
-pub put-requires-in-SchemaPermission : goal.put-requires-in-SchemaPermission
-put-requires-in-SchemaPermission c =
-    let ok = sym c.passes.ensures ∙ c.if-not-passes.false in
-    let is = number_named (kind_of c.args.word) SchemaPermission (sym c.of.ensures ∙ c.in-Some.is ∙ ap Some c.in-SchemaPermission.is) in (
-      omega arith,
-      follows_same _ triple_less schema_permission_key (vec_items c.args.self.now.schema_permissions.shelf.records) c.from-in-SchemaPermission.result (schema_permission_of c.args.word) triples_below c.from-in-SchemaPermission.ensures
-          ∙ rises_of (content_of c.args.self.now) c.args.word 11 is ok refl,
-    )
-
 schema_permission_next : (c : After-put-in-SchemaPermission) → record (content_of c.args.self.now) { schema_permissions = vec_items c.put-in-SchemaPermission.new.self.shelf.records } ≡ takes policy_rules (content_of c.args.self.now) c.args.word
 schema_permission_next c =
     let ok = sym c.passes.ensures ∙ c.if-not-passes.false in
     let is = number_named (kind_of c.args.word) SchemaPermission (sym c.of.ensures ∙ c.in-Some.is ∙ ap Some c.in-SchemaPermission.is) in
+    let follows = follows_same _ triple_less schema_permission_key (vec_items c.args.self.now.schema_permissions.shelf.records) c.from-in-SchemaPermission.result (schema_permission_of c.args.word) triples_below c.from-in-SchemaPermission.ensures ∙ rises_of (content_of c.args.self.now) c.args.word 11 is ok refl in
     let m = content_of c.args.self.now in
-    taken m c.args.word ok 11 256 (λ zs. record m { schema_permissions = zs }) m.schema_permissions (vec_items c.put-in-SchemaPermission.new.self.shelf.records) c.from-in-SchemaPermission.result (schema_permission_of c.args.word) is refl refl c.from-in-SchemaPermission.ensures c.put-in-SchemaPermission.ensures
+    taken m c.args.word ok 11 256 (λ zs. record m { schema_permissions = zs }) m.schema_permissions (vec_items c.put-in-SchemaPermission.new.self.shelf.records) c.from-in-SchemaPermission.result (schema_permission_of c.args.word) is refl refl c.from-in-SchemaPermission.ensures (c.put-in-SchemaPermission.ensures ∙ cond-true _ _ _ follows)
 
 pub invariant_of-self-in-SchemaPermission : goal.invariant_of-self-in-SchemaPermission
 invariant_of-self-in-SchemaPermission c = let s = still c.args.self.now c.args.word _ (sym c.passes.ensures ∙ c.if-not-passes.false) (schema_permission_next c) in search rules
@@ -95,21 +72,13 @@ invariant_of-self-in-SchemaPermission c = let s = still c.args.self.now c.args.w
 pub returns-in-SchemaPermission : goal.returns-in-SchemaPermission
 returns-in-SchemaPermission c = schema_permission_next (goal.at.returns-in-SchemaPermission c).After-put-in-SchemaPermission
 
-pub put-requires-in-RolePermission : goal.put-requires-in-RolePermission
-put-requires-in-RolePermission c =
-    let ok = sym c.passes.ensures ∙ c.if-not-passes.false in
-    let is = number_named (kind_of c.args.word) RolePermission (sym c.of.ensures ∙ c.in-Some.is ∙ ap Some c.in-RolePermission.is) in (
-      omega arith,
-      follows_same _ triple_less role_permission_key (vec_items c.args.self.now.role_permissions.shelf.records) c.from-in-RolePermission.result (role_permission_of c.args.word) triples_below c.from-in-RolePermission.ensures
-          ∙ rises_of (content_of c.args.self.now) c.args.word 12 is ok refl,
-    )
-
 role_permission_next : (c : After-put-in-RolePermission) → record (content_of c.args.self.now) { role_permissions = vec_items c.put-in-RolePermission.new.self.shelf.records } ≡ takes policy_rules (content_of c.args.self.now) c.args.word
 role_permission_next c =
     let ok = sym c.passes.ensures ∙ c.if-not-passes.false in
     let is = number_named (kind_of c.args.word) RolePermission (sym c.of.ensures ∙ c.in-Some.is ∙ ap Some c.in-RolePermission.is) in
+    let follows = follows_same _ triple_less role_permission_key (vec_items c.args.self.now.role_permissions.shelf.records) c.from-in-RolePermission.result (role_permission_of c.args.word) triples_below c.from-in-RolePermission.ensures ∙ rises_of (content_of c.args.self.now) c.args.word 12 is ok refl in
     let m = content_of c.args.self.now in
-    taken m c.args.word ok 12 256 (λ zs. record m { role_permissions = zs }) m.role_permissions (vec_items c.put-in-RolePermission.new.self.shelf.records) c.from-in-RolePermission.result (role_permission_of c.args.word) is refl refl c.from-in-RolePermission.ensures c.put-in-RolePermission.ensures
+    taken m c.args.word ok 12 256 (λ zs. record m { role_permissions = zs }) m.role_permissions (vec_items c.put-in-RolePermission.new.self.shelf.records) c.from-in-RolePermission.result (role_permission_of c.args.word) is refl refl c.from-in-RolePermission.ensures (c.put-in-RolePermission.ensures ∙ cond-true _ _ _ follows)
 
 pub invariant_of-self-in-RolePermission : goal.invariant_of-self-in-RolePermission
 invariant_of-self-in-RolePermission c = let s = still c.args.self.now c.args.word _ (sym c.passes.ensures ∙ c.if-not-passes.false) (role_permission_next c) in search rules
@@ -117,21 +86,13 @@ invariant_of-self-in-RolePermission c = let s = still c.args.self.now c.args.wor
 pub returns-in-RolePermission : goal.returns-in-RolePermission
 returns-in-RolePermission c = role_permission_next (goal.at.returns-in-RolePermission c).After-put-in-RolePermission
 
-pub put-requires-in-Assignment : goal.put-requires-in-Assignment
-put-requires-in-Assignment c =
-    let ok = sym c.passes.ensures ∙ c.if-not-passes.false in
-    let is = number_named (kind_of c.args.word) Assignment (sym c.of.ensures ∙ c.in-Some.is ∙ ap Some c.in-Assignment.is) in (
-      omega arith,
-      follows_same _ pair_less assignment_key (vec_items c.args.self.now.assignments.shelf.records) c.from-in-Assignment.result (assignment_of c.args.word) pairs_below c.from-in-Assignment.ensures
-          ∙ rises_of (content_of c.args.self.now) c.args.word 13 is ok refl,
-    )
-
 assignment_next : (c : After-put-in-Assignment) → record (content_of c.args.self.now) { assignments = vec_items c.put-in-Assignment.new.self.shelf.records } ≡ takes policy_rules (content_of c.args.self.now) c.args.word
 assignment_next c =
     let ok = sym c.passes.ensures ∙ c.if-not-passes.false in
     let is = number_named (kind_of c.args.word) Assignment (sym c.of.ensures ∙ c.in-Some.is ∙ ap Some c.in-Assignment.is) in
+    let follows = follows_same _ pair_less assignment_key (vec_items c.args.self.now.assignments.shelf.records) c.from-in-Assignment.result (assignment_of c.args.word) pairs_below c.from-in-Assignment.ensures ∙ rises_of (content_of c.args.self.now) c.args.word 13 is ok refl in
     let m = content_of c.args.self.now in
-    taken m c.args.word ok 13 512 (λ zs. record m { assignments = zs }) m.assignments (vec_items c.put-in-Assignment.new.self.shelf.records) c.from-in-Assignment.result (assignment_of c.args.word) is refl refl c.from-in-Assignment.ensures c.put-in-Assignment.ensures
+    taken m c.args.word ok 13 512 (λ zs. record m { assignments = zs }) m.assignments (vec_items c.put-in-Assignment.new.self.shelf.records) c.from-in-Assignment.result (assignment_of c.args.word) is refl refl c.from-in-Assignment.ensures (c.put-in-Assignment.ensures ∙ cond-true _ _ _ follows)
 
 pub invariant_of-self-in-Assignment : goal.invariant_of-self-in-Assignment
 invariant_of-self-in-Assignment c = let s = still c.args.self.now c.args.word _ (sym c.passes.ensures ∙ c.if-not-passes.false) (assignment_next c) in search rules

@@ -1,10 +1,12 @@
 //! How a list is read into a charter. What goes by kind is a match, since each kind has a shelf of its own type.
 
-ghost use Rattle.std.specs.Prelude.{◌≡◌, IfOk};
+ghost use Rattle.std.specs.Prelude.{◌≡◌, IfOk, ⊤};
 ghost use Rattle.wordlist.specs.Fields.{kind_of};
+ghost use Rattle.wordlist.specs.Given.{given_from};
 ghost use Rattle.wordlist.specs.Kinds.{number_of};
 ghost use Rattle.wordlist.specs.Reading.{passing};
 ghost use Rattle.policy.specs.Contents.{Content, content_of, counts_of, none};
+ghost use Rattle.policy.specs.Reading.{content_from};
 ghost use Rattle.policy.specs.Rules.{least_kind, policy_rules, rises_as};
 
 use super::Charter;
@@ -13,6 +15,8 @@ use keyed::shelf::Shelf;
 use records::kinds::{Assignment, Badges, Parent, Role, RolePermission, Schema, SchemaPermission};
 use records::words::{Counts, Record};
 use std::alloc::{AllocError, Global};
+use std::mem::swap;
+use wordlist::keeping::Drafted;
 use wordlist::kinds::Kind;
 use wordlist::list::WordList;
 
@@ -170,5 +174,33 @@ impl WordList for Charter {
 
     fn owes(&self) -> bool {
         self.badges == 0
+    }
+}
+
+impl Drafted for Charter {
+    type Ground = ();
+
+    type Kept = Charter;
+
+    ghost Content = { Content };
+
+    ghost content = { content_of };
+
+    ghost said = { content_of };
+
+    ghost bears = { λ _. ⊤ };
+
+    ghost begun = { λ _ c. content_of c ≡ none };
+
+    ghost outcome = { λ _ ws. content_from ws };
+
+    ghost reads = { λ _ d e a ws. given_from content_of (λ c. c) policy_rules none d e a ws };
+
+    fn begin(&mut self, _ground: ()) {
+        self.clear();
+    }
+
+    fn exchange(&mut self, kept: &mut Charter) {
+        swap(self, kept);
     }
 }

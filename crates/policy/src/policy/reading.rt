@@ -10,9 +10,8 @@ ghost use Rattle.policy.specs.Spelling.{spelled};
 use super::super::charter::Charter;
 use super::Policy;
 use std::alloc::{AllocError, Global};
-use std::mem::swap;
 use wordlist::faults::RecordFault;
-use wordlist::list::read;
+use wordlist::keeping::keep;
 
 impl Policy {
     /// No badges and no records. All the memory that the policy will use is taken here.
@@ -31,14 +30,7 @@ impl Policy {
         ensures draft { content_of self.new.draft ≡ none }
         ensures exactly { result ≡ Ok tt → spelled (says self.new) ≡ words.now }
     {
-        // The other lists read into a draft too, but each starts and keeps its own, of another type.
-        self.draft.clear();
-        let answer = read(&mut self.draft, words);
-        if answer.is_ok() {
-            swap(&mut self.kept, &mut self.draft);
-        }
-        self.draft.clear();
-        answer
+        keep(&mut self.draft, (), &mut self.kept, words)
     }
 
     /// Becomes what it was when it was made: no badges and no records.

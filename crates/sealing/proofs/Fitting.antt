@@ -1,5 +1,5 @@
 -- A sealed policy fits its hall.
-use Rattle.std.proofs.Common.{◌≡◌, ℕ, ◌<◌, Bool, true, false, not, ◌&&◌, length, Some, None, Option, sym, refl, ap, ◌∙◌, ⊎_elim, arith}
+use Rattle.std.proofs.Common.{◌≡◌, ℕ, ◌<◌, Bool, true, false, not, ◌&&◌, length, Some, None, Option, sym, refl, ap, ◌∙◌, ⊎_elim}
 use Rattle.std.specs.Option.{option_or}
 use Rattle.std.proofs.lemmas.Bool.{not-false, and_parts, and_from, and_cases, both_ways, eqb-true, eq-eqb, ltb-false, false≢true}
 use Rattle.sets.specs.Bounds.{first_of}
@@ -19,7 +19,7 @@ use Rattle.sealing.proofs.Reading.{sealing_clear}
 -- two searches that find nothing
 nothing : (o u : Option SealFault) → option_or o u ≡ None → (o ≡ None) × (u ≡ None)
 nothing None u e = (refl, e)
-nothing (Some f) u e = absurd (let z : ◌≡◌ {A = ℕ} 0 1 = cc in omega arith)
+nothing (Some f) u e = (cc, cc)
 
 -- to be of type t is to have it
 pub typed : (o : Option ℕ) (t : ℕ) → is_type t o ≡ true → o ≡ Some t

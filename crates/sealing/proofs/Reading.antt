@@ -56,7 +56,7 @@ module _ (c : Content) (w : ℕ) where
 -- a test that was passed, and what came after it
 after : (b : Bool) (x : Answer) (f : RecordFault) (u : Unit {0}) → cond b x (Err f) ≡ Ok u → (b ≡ true) × (x ≡ Ok u)
 after true x f u e = (refl, e)
-after false x f u e = absurd (let z : ◌≡◌ {A = ℕ} 0 1 = cc in omega arith)
+after false x f u e = (cc, cc)
 
 -- the fields of a word that breaks no rule are good
 sound_from : (c : Content) (i w : ℕ) (u : Unit {0}) → judge policy_rules c i w ≡ Ok u → sound_as (kind_of w) c w ≡ true
@@ -82,7 +82,7 @@ kept_none = ((λ k d l. absurd (omega arith)), (λ k d l. absurd (omega arith)))
 
 -- a list that was accepted owes nothing, and gives what was read
 owed : (b : Bool) (s c : Content) (f : RecordFault) → given (λ x. x) (s, cond b (Err f) (Ok tt)) ≡ Ok c → s ≡ c
-owed true s c f e = absurd (let z : ◌≡◌ {A = ℕ} 0 1 = cc in omega arith)
+owed true s c f e = cc
 owed false s c f e = cc
 
 kept_given : (r : Content × Answer) (ws : List ℕ) (c : Content) → run policy_rules none 0 ws ≡ r → given (λ x. x) (ended policy_rules (length ws) r) ≡ Ok c → Kept c
@@ -96,10 +96,10 @@ read_kept ws c e = kept_given (run policy_rules none 0 ws) ws c refl e
 -- what was allowed was read, and has no fault
 unless_parts : (o : Option SealFault) (d c : Content) → unless o d ≡ Ok c → (o ≡ None) × (d ≡ c)
 unless_parts None d c e = (refl, cc)
-unless_parts (Some f) d c e = absurd (let z : ◌≡◌ {A = ℕ} 0 1 = cc in omega arith)
+unless_parts (Some f) d c e = (cc, cc)
 
 allowed_parts : (h : Hall) (r : Result Content RecordFault) (c : Content) → allowed h r ≡ Ok c → (r ≡ Ok c) × (first_fault (sight_of h) c ≡ None)
-allowed_parts h (Err f) c e = absurd (let z : ◌≡◌ {A = ℕ} 0 1 = cc in omega arith)
+allowed_parts h (Err f) c e = (cc, cc)
 allowed_parts h (Ok d) c e =
     let p = unless_parts (first_fault (sight_of h) d) d c e in
     (ap Ok p.1, ap (first_fault (sight_of h)) (sym p.1) ∙ p.0)

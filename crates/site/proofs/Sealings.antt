@@ -17,16 +17,16 @@ use Rattle.sealing.specs.Outcome.{unless, allowed, sealing, sealing_after}
 -- an accepted reading gives what is kept after it
 pub accepted_is : (o : Result Content RecordFault) (old new : Content) → Ok tt ≡ answered o → new ≡ replaced old o → o ≡ Ok new
 accepted_is (Ok c) old new a e = ap Ok (sym e)
-accepted_is (Err f) old new a e = absurd (let z : ◌≡◌ {A = ℕ} 0 1 = cc in omega arith)
+accepted_is (Err f) old new a e = cc
 
 -- a reading that ended well has badges
 ended_well : (a : Content × Answer) (n : ℕ) (c : Content) → given (λ s. s) (ended policy_rules n a) ≡ Ok c → eqb c.badges 0 ≡ false
 ended_well (s, Ok u) n c e =
     ⊎_elim
-    (λ (z : eqb s.badges 0 ≡ true). absurd (let o : given (λ s. s) (s, Err _) ≡ Ok c = rw z at e in let z : ◌≡◌ {A = ℕ} 0 1 = cc in omega arith))
+    (λ (z : eqb s.badges 0 ≡ true). let o : given (λ s. s) (s, Err _) ≡ Ok c = rw z at e in cc)
     (λ (z : eqb s.badges 0 ≡ false). let o : Ok s ≡ Ok c = rw z at e in let same : s ≡ c = cc in ap (λ (t : Content). eqb t.badges 0) (sym same) ∙ z)
     (cases_Bool (eqb s.badges 0))
-ended_well (s, Err f) n c e = absurd (let z : ◌≡◌ {A = ℕ} 0 1 = cc in omega arith)
+ended_well (s, Err f) n c e = cc
 
 pub read_has_badges : (ws : List ℕ) (c : Content) → content_from ws ≡ Ok c → c.badges ≡ 0 → ⊥
 read_has_badges ws c e z = false≢true (sym (ended_well (run policy_rules none 0 ws) (length ws) c e) ∙ eq-eqb c.badges 0 z)

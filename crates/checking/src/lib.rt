@@ -2,6 +2,4 @@
 
 #![tactic(auto)]
 
-pub mod faults;
 pub mod sections;
-pub mod show;

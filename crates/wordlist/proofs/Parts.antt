@@ -1,5 +1,5 @@
 -- What a cut leaves.
-use Rattle.std.proofs.Common.{◌≡◌, ℕ, ◌<◌, Bool, true, false, cond, eqb, List, [], ◌∷◌, ◌++◌, length, take, drop, Some, refl, ap, subst, arith, length-drop, take-append-drop}
+use Rattle.std.proofs.Common.{◌≡◌, ℕ, Bool, true, false, cond, eqb, List, [], ◌∷◌, ◌++◌, take, drop, Some, refl, ap, subst, arith, take-append-drop}
 use Rattle.wordlist.specs.Fields.{field, kind_of}
 use Rattle.wordlist.specs.Cutting.{Cut, plain, drawn, cells, body_of, cut_of, cut_at, left_of, index_of, words_of}
 
@@ -17,7 +17,3 @@ cut_parts i [] c e = absurd (let z : ◌≡◌ {A = ℕ} 0 1 = cc in omega arith
 cut_parts i (h ∷ rest) c e =
     let is : cut_at i h (take (body_of h) rest) ≡ c = cc in
     subst (λ x. (index_of x ≡ i) × (words_of x ++ drop (body_of h) rest ≡ h ∷ rest)) is (parts (eqb (kind_of h) 2) (eqb (kind_of h) 4) i h (field 4 5 h) rest)
-
-pub cut_less : (i : ℕ) (ws left : List ℕ) (c : Cut) → Some c ≡ cut_of i ws → left ≡ left_of ws → length left < length ws
-cut_less i [] left c e l = absurd (let z : ◌≡◌ {A = ℕ} 0 1 = cc in omega arith)
-cut_less i (h ∷ rest) left c e l = omega (arith, ap length l, length-drop (body_of h) rest)

@@ -109,8 +109,7 @@ fn take_record<L: WordList>(list: &mut L, record: Record<'_>) -> Result<(), Reco
 pub fn read<L: WordList>(list: &mut L, words: &[u32]) -> Result<(), RecordFault>
     ensures { (L.state list.new, result) ≡ read_of L.rules (L.state list.old) words.now }
 {
-    let mut reader = Reader::new(words);
-    while let Some(record) = reader.next() {
+    for record in Reader::new(words) {
         take_record(list, record)?;
     }
     complete(list, words.len())?;

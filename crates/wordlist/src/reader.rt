@@ -1,8 +1,7 @@
 //! A list of words, handed out one record at a time.
 
 ghost use Rattle.std.specs.Prelude.{◌≡◌, ℕ, ◌+◌, ◌^◌, ◌<◌, ◌≤◌, ◌∷◌, length, take, drop};
-ghost use Rattle.wordlist.specs.Cutting.{body_of, cut_at, cut_of, index_of, left_of, shown, words_of};
-ghost use Rattle.std.specs.Option.{option_map};
+ghost use Rattle.wordlist.specs.Cutting.{body_of, cut_at, index_of, shown, words_of};
 
 use super::fields::bits;
 use super::kinds::Kind;
@@ -106,13 +105,21 @@ impl<'a> Reader<'a> {
             index: 0,
         }
     }
+}
 
-    /// The next record, of which the last one may lack words.
-    pub fn next(&mut self) -> Option<Record<'a>>
-        ensures cut { option_map shown result ≡ cut_of self.old.index self.old.left.now }
-        ensures left { self.new.left.now ≡ left_of self.old.left.now }
-        ensures index { self.new.index + length self.new.left.now ≡ self.old.index + length self.old.left.now }
-    {
+/// Hands out the next record, of which the last one may lack words.
+impl<'a> Iterator for Reader<'a> {
+    ghost use Rattle.std.specs.Prelude.{length};
+    ghost use Rattle.std.specs.Iterator.{at_most};
+    ghost use Rattle.wordlist.specs.Handing.{Hands};
+
+    type Item = Record<'a>;
+
+    ghost next_gives = { Hands };
+
+    ghost remaining = { λ s. at_most (length s.left.now) };
+
+    fn next(&mut self) -> Option<Record<'a>> {
         let [head, rest @ ..] = self.left else {
             return None;
         };

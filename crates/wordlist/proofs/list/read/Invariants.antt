@@ -6,9 +6,6 @@ use Rattle.wordlist.proofs.list.read.Given as goal
 abbrev pub invariant-loop-record : goal.invariant-loop-record
 invariant-loop-record g l =
     let s = g.L.WordList.state in
-    let left = l.reader.left.now in
-    (run g.L.WordList.rules (s l.initial.list) 0 l.words ≡ run g.L.WordList.rules (s l.list) l.reader.index left)
-    × (l.reader.index + length left ≡ length l.words)
-
-abbrev pub decreases-loop-record : goal.decreases-loop-record
-decreases-loop-record g l = length l.reader.left.now
+    let left = l.record-iterator.left.now in
+    (run g.L.WordList.rules (s l.initial.list) 0 l.words ≡ run g.L.WordList.rules (s l.list) l.record-iterator.index left)
+    × (l.record-iterator.index + length left ≡ length l.words)

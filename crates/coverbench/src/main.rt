@@ -6,6 +6,7 @@ use drawn::outline::Outline;
 use listed::listed::Listed;
 use listed::shape::Shape;
 use plan::Plan;
+use point::Point;
 use std::alloc::{AllocError, Global};
 
 /// The words of the floor and its places.
@@ -29,7 +30,7 @@ fn covered<P: Plan>(plan: &P) -> u64 {
     for y in 0..plan.height() {
         for x in 0..plan.width() {
             for place in 0..plan.count() {
-                if plan.covers(place, x, y) {
+                if plan.covers(place, Point { x, y }) {
                     all = all.wrapping_add(1);
                 }
             }

@@ -1,8 +1,8 @@
 -- What a reading gives, and what it leaves where it is refused.
-use Rattle.std.proofs.Common.{◌≡◌, ℕ, true, false, List, is_ok, Ok, Err, Result, ap, ◌∙◌, arith}
+use Rattle.std.proofs.Common.{◌≡◌, ℕ, true, false, is_ok, Ok, Err, Result, ap, arith}
 use Rattle.wordlist.specs.declared.faults.RecordFault.{RecordFault}
 use Rattle.wordlist.specs.Outcomes.{given, answered, replaced}
-use Rattle.wordlist.specs.Reading.{Rules, Answer, read_of}
+use Rattle.wordlist.specs.Reading.{Answer}
 
 module _ {S X : Type 0} (wanted : S → X) where
   -- the state d and the answer a of a reading that gives r
@@ -17,18 +17,3 @@ module _ {S X : Type 0} (wanted : S → X) where
   pub given_leaves : (d : S) (a : Answer) (r : Result X RecordFault) (old : X) → is_ok a ≡ false → given wanted (d, a) ≡ r → old ≡ replaced old r
   given_leaves d (Ok u) r old ok e = absurd (let z : ◌≡◌ {A = ℕ} 0 1 = cc in omega arith)
   given_leaves d (Err f) r old ok e = ap (replaced old) e
-
-module _ {S X : Type 0} (wanted : S → X) (g : Rules S) where
-  -- the state d and the answer a of a reading that began with s, which is the start
-  module _ (start d s : S) (a : Answer) (ws : List ℕ) (e : (d, a) ≡ read_of g s ws) (is : s ≡ start) where
-    given_from : given wanted (d, a) ≡ given wanted (read_of g start ws)
-    given_from = ap (given wanted) (e ∙ ap (λ x. read_of g x ws) is)
-
-    pub read_answers : a ≡ answered (given wanted (read_of g start ws))
-    read_answers = given_answers wanted d a _ given_from
-
-    pub read_takes : (old : X) → is_ok a ≡ true → wanted d ≡ replaced old (given wanted (read_of g start ws))
-    read_takes old ok = given_takes wanted d a _ old ok given_from
-
-    pub read_leaves : (old : X) → is_ok a ≡ false → old ≡ replaced old (given wanted (read_of g start ws))
-    read_leaves old ok = given_leaves wanted d a _ old ok given_from

@@ -1,14 +1,15 @@
 -- The answer that the result of a call stands for.
 use Rattle.std.specs.Prelude.{ℕ, Bool, Ok, Err, Option, Result}
 use Rattle.sets.specs.declared.Set64.{Set64}
-use Rattle.calls.specs.declared.call.Answer.{Answer}
-use Rattle.calls.specs.declared.call.Answer.TheVariants.{Done, Place, Verdict, RoleSet, Granted, Refused}
+use Rattle.calls.specs.Answers.{Answer}
+use Rattle.calls.specs.declared.call.Reply.{Reply}
+use Rattle.calls.specs.declared.call.Reply.TheVariants.{Done, Place, Verdict, RoleSet, Granted}
 use Rattle.calls.specs.declared.refusal.Refusal.{Refusal}
 
 -- a value stands for an answer, and a refusal for itself
-abbrev pub answer_of : {A : Type 0} → (A → Answer) → Result A Refusal → Answer
-answer_of f (Ok x) = f x
-answer_of f (Err n) = Refused n
+abbrev pub answer_of : {A : Type 0} → (A → Reply) → Result A Refusal → Answer
+answer_of f (Ok x) = Ok (f x)
+answer_of f (Err n) = Err n
 
 -- of a call that tells something
 abbrev pub done : Result (Unit {0}) Refusal → Answer

@@ -1,42 +1,32 @@
 //! Whether an event of a badge is refused, whatever it is.
 
 ghost use Rattle.std.specs.Prelude.{◌≡◌};
-ghost use Rattle.calls.specs.Kept.{standing_of};
-ghost use Rattle.history.specs.Laws.{call};
-ghost use Rattle.history.specs.Refusals.{refusal as refusal_of};
-ghost use Rattle.site.specs.Kept.{ground};
+ghost use Rattle.std.specs.Result.{result_err};
+ghost use Rattle.decide.specs.Subjects.{refused_by};
 
-use crate::ask::ask;
-use crate::refuse;
-use calls::badge::Badge;
+use crate::subject::Subject;
 use calls::call::Event;
 use calls::refusal::Refusal;
 use plan::Plan;
-use site::site::Site;
 
-/// Why the event is refused, if it is.
-pub fn refusal<'a, P: Plan>(
-    site: &'a Site<P>,
-    number: u16,
-    badge: &'a Badge,
-    event: Event,
-) -> Option<Refusal>
-    ensures { result ≡ refusal_of (ground (P.Plan.hall site.now.plan) site.now) (standing_of badge.now) (call number event) }
-{
-    match event {
-        Event::Report { x, y } => refuse::report(site, number, badge, x, y),
-        Event::Miss => refuse::miss(site, number, badge),
-        Event::Open { session } => refuse::open(site, number, badge, session),
-        Event::Close { session } => refuse::outside_session(site, number, badge, session),
-        Event::Activate { session, role } => refuse::activate(site, number, badge, session, role),
-        Event::Drop { session, role } => refuse::drop(site, number, badge, session, role),
-        Event::Where { role } => refuse::of_role(site, number, badge, role),
-        Event::Enabled { role } => refuse::of_role(site, number, badge, role),
-        Event::Roles { session } => refuse::outside_session(site, number, badge, session),
-        Event::Ask {
-            session,
-            operation,
-            object,
-        } => ask(site, number, badge, session, operation, object).err(),
+impl<'a, P: Plan> Subject<'a, P> {
+    /// Whether the event is refused.
+    pub fn refusal(&self, event: Event) -> Result<(), Refusal>
+        ensures { result_err result ≡ refused_by P.Plan.hall self.now event }
+    {
+        match event {
+            Event::Report { at } => self.report(at),
+            Event::Miss => self.miss(),
+            Event::Open { session } => self.open(session),
+            Event::Close { session } | Event::Roles { session } => self.open_session(session),
+            Event::Activate { session, role } => self.activate(session, role),
+            Event::Drop { session, role } => self.drop(session, role),
+            Event::Where { role } | Event::Enabled { role } => self.of_role(role),
+            Event::Ask {
+                session,
+                operation,
+                object,
+            } => self.ask(session, operation, object).map(|_| ()),
+        }
     }
 }

@@ -5,3 +5,4 @@ pub mod ask;
 pub mod judge;
 pub mod located;
 pub mod refuse;
+pub mod subject;

@@ -1,134 +1,123 @@
 //! Why a call or a question is refused, if it is: the reasons in the order in which they are tried.
 
 ghost use Rattle.std.specs.Prelude.{◌≡◌, [], ◌∷◌};
+ghost use Rattle.std.specs.Result.{result_err};
 ghost use Rattle.calls.specs.Kept.{standing_of};
-ghost use Rattle.calls.specs.declared.call.Event.TheVariants.{Report, Miss, Open, Close, Activate, Drop as Dropped, Where, Enabled, Roles, Ask};
-ghost use Rattle.history.specs.Laws.{call};
-ghost use Rattle.history.specs.Refusals.{refusal as refusal_of, first_reason, no_badge, no_session, not_open};
-ghost use Rattle.site.specs.Kept.{ground};
+ghost use Rattle.calls.specs.declared.call.Event.TheVariants.{Report, Miss, Open, Activate, Drop as Dropped, Where, Enabled};
+ghost use Rattle.history.specs.Refusals.{first_reason, no_badge, no_session, not_open, no_role};
+ghost use Rattle.decide.specs.Subjects.{over, refused_by};
 
-use calls::badge::{Badge, SESSIONS};
+use crate::subject::Subject;
+use calls::badge::SESSIONS;
 use calls::refusal::Refusal;
 use plan::Plan;
-use site::site::Site;
+use point::Point;
 
-/// Why a session cannot be asked of: no such badge, no such session, or it is not open.
-pub fn outside_session<P: Plan>(
-    site: &Site<P>,
-    badge: u16,
-    state: &Badge,
-    session: u16,
-) -> Option<Refusal>
-    ensures { result ≡ first_reason (no_badge (ground (P.Plan.hall site.now.plan) site.now) (standing_of state.now) badge ∷ no_session (ground (P.Plan.hall site.now.plan) site.now) (standing_of state.now) session ∷ not_open (ground (P.Plan.hall site.now.plan) site.now) (standing_of state.now) session ∷ []) }
-{
-    if badge >= site.badges() as u16 {
-        return Some(Refusal::UnknownBadge);
+impl<'a, P: Plan> Subject<'a, P> {
+    /// Refused where there is no such badge.
+    fn known_badge(&self) -> Result<(), Refusal>
+        ensures { result_err result ≡ first_reason (no_badge (over P.Plan.hall self.now) (standing_of self.now.badge) self.now.number ∷ []) }
+    {
+        if self.number >= u16::from(self.site.badges()) {
+            return Err(Refusal::UnknownBadge);
+        }
+        Ok(())
     }
-    if session >= SESSIONS {
-        return Some(Refusal::UnknownSession);
-    }
-    if !state.is_open(session) {
-        return Some(Refusal::NotOpen);
-    }
-    None
-}
 
-/// Why a report is refused.
-pub fn report<P: Plan>(site: &Site<P>, badge: u16, state: &Badge, x: u16, y: u16) -> Option<Refusal>
-    ensures { result ≡ refusal_of (ground (P.Plan.hall site.now.plan) site.now) (standing_of state.now) (call badge (Report x y)) }
-{
-    if badge >= site.badges() as u16 {
-        return Some(Refusal::UnknownBadge);
+    /// Refused where there is no such badge, or no such session.
+    fn known_session(&self, session: u16) -> Result<(), Refusal>
+        ensures { result_err result ≡ first_reason (no_badge (over P.Plan.hall self.now) (standing_of self.now.badge) self.now.number ∷ no_session (over P.Plan.hall self.now) (standing_of self.now.badge) session ∷ []) }
+    {
+        self.known_badge()?;
+        if session >= SESSIONS {
+            return Err(Refusal::UnknownSession);
+        }
+        Ok(())
     }
-    if !site.is_on_floor(x, y) {
-        return Some(Refusal::OffFloor);
-    }
-    None
-}
 
-/// Why a miss is refused.
-pub fn miss<P: Plan>(site: &Site<P>, badge: u16, state: &Badge) -> Option<Refusal>
-    ensures { result ≡ refusal_of (ground (P.Plan.hall site.now.plan) site.now) (standing_of state.now) (call badge Miss) }
-{
-    if badge >= site.badges() as u16 {
-        return Some(Refusal::UnknownBadge);
+    /// Refused where there is no such role.
+    fn known_role(&self, role: u16) -> Result<(), Refusal>
+        ensures { result_err result ≡ first_reason (no_role (over P.Plan.hall self.now) (standing_of self.now.badge) role ∷ []) }
+    {
+        if role as usize >= self.site.role_count() {
+            return Err(Refusal::UnknownRole);
+        }
+        Ok(())
     }
-    None
-}
 
-/// Why an opening is refused.
-pub fn open<P: Plan>(site: &Site<P>, badge: u16, state: &Badge, session: u16) -> Option<Refusal>
-    ensures { result ≡ refusal_of (ground (P.Plan.hall site.now.plan) site.now) (standing_of state.now) (call badge (Open session)) }
-{
-    if badge >= site.badges() as u16 {
-        return Some(Refusal::UnknownBadge);
+    /// Refused where a session cannot be asked of: no such badge, no such session, or it is not open.
+    pub fn open_session(&self, session: u16) -> Result<(), Refusal>
+        ensures { result_err result ≡ first_reason (no_badge (over P.Plan.hall self.now) (standing_of self.now.badge) self.now.number ∷ no_session (over P.Plan.hall self.now) (standing_of self.now.badge) session ∷ not_open (over P.Plan.hall self.now) (standing_of self.now.badge) session ∷ []) }
+    {
+        self.known_session(session)?;
+        if !self.badge.is_open(session) {
+            return Err(Refusal::NotOpen);
+        }
+        Ok(())
     }
-    if session >= SESSIONS {
-        return Some(Refusal::UnknownSession);
-    }
-    if state.is_open(session) {
-        return Some(Refusal::AlreadyOpen);
-    }
-    None
-}
 
-/// Why an activation is refused.
-pub fn activate<P: Plan>(
-    site: &Site<P>,
-    badge: u16,
-    state: &Badge,
-    session: u16,
-    role: u16,
-) -> Option<Refusal>
-    ensures { result ≡ refusal_of (ground (P.Plan.hall site.now.plan) site.now) (standing_of state.now) (call badge (Activate session role)) }
-{
-    if let Some(refusal) = outside_session(site, badge, state, session) {
-        return Some(refusal);
+    /// Whether a report is refused.
+    pub fn report(&self, at: Point) -> Result<(), Refusal>
+        ensures { result_err result ≡ refused_by P.Plan.hall self.now (Report at) }
+    {
+        self.known_badge()?;
+        if !self.site.is_on_floor(at) {
+            return Err(Refusal::OffFloor);
+        }
+        Ok(())
     }
-    if role as usize >= site.role_count() {
-        return Some(Refusal::UnknownRole);
-    }
-    if !site.is_entitled(badge, role) {
-        return Some(Refusal::NotEntitled);
-    }
-    if state.is_active(session, role as usize) {
-        return Some(Refusal::AlreadyActive);
-    }
-    None
-}
 
-/// Why a drop is refused.
-pub fn drop<P: Plan>(
-    site: &Site<P>,
-    badge: u16,
-    state: &Badge,
-    session: u16,
-    role: u16,
-) -> Option<Refusal>
-    ensures { result ≡ refusal_of (ground (P.Plan.hall site.now.plan) site.now) (standing_of state.now) (call badge (Dropped session role)) }
-{
-    if let Some(refusal) = outside_session(site, badge, state, session) {
-        return Some(refusal);
+    /// Whether a miss is refused.
+    pub fn miss(&self) -> Result<(), Refusal>
+        ensures { result_err result ≡ refused_by P.Plan.hall self.now Miss }
+    {
+        self.known_badge()
     }
-    if role as usize >= site.role_count() {
-        return Some(Refusal::UnknownRole);
-    }
-    if !state.is_active(session, role as usize) {
-        return Some(Refusal::NotActive);
-    }
-    None
-}
 
-/// Why a question about a role is refused.
-pub fn of_role<P: Plan>(site: &Site<P>, badge: u16, state: &Badge, role: u16) -> Option<Refusal>
-    ensures place { result ≡ refusal_of (ground (P.Plan.hall site.now.plan) site.now) (standing_of state.now) (call badge (Where role)) }
-    ensures enabled { result ≡ refusal_of (ground (P.Plan.hall site.now.plan) site.now) (standing_of state.now) (call badge (Enabled role)) }
-{
-    if badge >= site.badges() as u16 {
-        return Some(Refusal::UnknownBadge);
+    /// Whether an opening is refused.
+    pub fn open(&self, session: u16) -> Result<(), Refusal>
+        ensures { result_err result ≡ refused_by P.Plan.hall self.now (Open session) }
+    {
+        self.known_session(session)?;
+        if self.badge.is_open(session) {
+            return Err(Refusal::AlreadyOpen);
+        }
+        Ok(())
     }
-    if role as usize >= site.role_count() {
-        return Some(Refusal::UnknownRole);
+
+    /// Whether an activation is refused.
+    pub fn activate(&self, session: u16, role: u16) -> Result<(), Refusal>
+        ensures { result_err result ≡ refused_by P.Plan.hall self.now (Activate session role) }
+    {
+        self.open_session(session)?;
+        self.known_role(role)?;
+        if !self.site.is_entitled(self.number, role) {
+            return Err(Refusal::NotEntitled);
+        }
+        if self.badge.is_active(session, role as usize) {
+            return Err(Refusal::AlreadyActive);
+        }
+        Ok(())
     }
-    None
+
+    /// Whether a drop is refused.
+    pub fn drop(&self, session: u16, role: u16) -> Result<(), Refusal>
+        ensures { result_err result ≡ refused_by P.Plan.hall self.now (Dropped session role) }
+    {
+        self.open_session(session)?;
+        self.known_role(role)?;
+        if !self.badge.is_active(session, role as usize) {
+            return Err(Refusal::NotActive);
+        }
+        Ok(())
+    }
+
+    /// Whether a question about a role is refused.
+    pub fn of_role(&self, role: u16) -> Result<(), Refusal>
+        ensures place { result_err result ≡ refused_by P.Plan.hall self.now (Where role) }
+        ensures enabled { result_err result ≡ refused_by P.Plan.hall self.now (Enabled role) }
+    {
+        self.known_badge()?;
+        self.known_role(role)
+    }
 }

@@ -5,8 +5,8 @@ use Rattle.sealing.specs.Ground.{Ground, ground_of}
 use Rattle.calls.specs.declared.call.Call.{Call}
 use Rattle.calls.specs.declared.call.Event.{Event}
 use Rattle.calls.specs.declared.call.Event.TheVariants.{Report, Miss, Open, Close, Activate, Drop, Where, Enabled, Roles, Ask}
-use Rattle.calls.specs.declared.call.Answer.{Answer}
-use Rattle.calls.specs.declared.call.Answer.TheVariants.{Done, Refused}
+use Rattle.calls.specs.Answers.{Answer}
+use Rattle.calls.specs.declared.call.Reply.TheVariants.{Done}
 use Rattle.calls.specs.declared.refusal.Refusal.{Refusal}
 use Rattle.calls.specs.declared.refusal.Refusal.TheVariants.{UnknownBadge}
 use Rattle.calls.specs.Standing.{Standing, moved}
@@ -40,13 +40,13 @@ module _ {P : Type 0} (h : Hall) (g g' : Guard P) (e : Call) (a : Answer) where
 
 module _ {P : Type 0} (h : Hall) (g g' : Guard P) (b : ℕ) (e : Event) where
   -- the answer to an event that tells something is done or refused
-  told : (o : Option Refusal) (r : Result (Unit {0}) Refusal) → result_err r ≡ o → done r ≡ refused_or o Done
+  told : (o : Option Refusal) (r : Result (Unit {0}) Refusal) → result_err r ≡ o → done r ≡ refused_or o (Ok Done)
   told None (Ok u) is = refl
-  told (Some n) (Err m) is = let same : m ≡ n = cc in ap Refused same
+  told (Some n) (Err m) is = let same : m ≡ n = cc in ap Err same
   told None (Err m) is = absurd (let z : ◌≡◌ {A = ℕ} 0 1 = cc in omega arith)
   told (Some n) (Ok u) is = absurd (let z : ◌≡◌ {A = ℕ} 0 1 = cc in omega arith)
 
-  tells : (r : Result (Unit {0}) Refusal) → outcome (ground_in h g) (kept_of g b) e ≡ Done → result_err r ≡ refusal (ground_in h g) (kept_of g b) (call b e) → g'.site ≡ g.site → ((d : ℕ) → kept_of g' d ≡ kept_after h g (call b e) d) → Performs h g g' (call b e) (done r)
+  tells : (r : Result (Unit {0}) Refusal) → outcome (ground_in h g) (kept_of g b) e ≡ Ok Done → result_err r ≡ refusal (ground_in h g) (kept_of g b) (call b e) → g'.site ≡ g.site → ((d : ℕ) → kept_of g' d ≡ kept_after h g (call b e) d) → Performs h g g' (call b e) (done r)
   tells r plain refused site kept = record {
     answered = told (refusal (ground_in h g) (kept_of g b) (call b e)) r refused ∙ sym (ap (refused_or (refusal (ground_in h g) (kept_of g b) (call b e))) plain);
     site = site;
@@ -54,7 +54,7 @@ module _ {P : Type 0} (h : Hall) (g g' : Guard P) (b : ℕ) (e : Event) where
   }
 
   -- and the calls go on
-  pub tells_on : (r : Result (Unit {0}) Refusal) → outcome (ground_in h g) (kept_of g b) e ≡ Done → result_err r ≡ refusal (ground_in h g) (kept_of g b) (call b e) → g'.site ≡ g.site → ((d : ℕ) → kept_of g' d ≡ kept_after h g (call b e) d) → Performs h g g' (call b e) (done r) × Continues h g g' (call b e) (done r)
+  pub tells_on : (r : Result (Unit {0}) Refusal) → outcome (ground_in h g) (kept_of g b) e ≡ Ok Done → result_err r ≡ refusal (ground_in h g) (kept_of g b) (call b e) → g'.site ≡ g.site → ((d : ℕ) → kept_of g' d ≡ kept_after h g (call b e) d) → Performs h g g' (call b e) (done r) × Continues h g g' (call b e) (done r)
   tells_on r plain refused site kept = let so = tells r plain refused site kept in (so, continues h g g' (call b e) (done r) so)
 
 module _ {P : Type 0} (h : Hall) (g : Guard P) (e : Call) (a : Answer) where
@@ -83,7 +83,7 @@ module _ {P : Type 0} (h : Hall) (g : Guard P) (b s operation object : ℕ) (a :
       record { to = λ q. law.only_if (sym is ∙ q); from = λ v. is ∙ law.when v }
 
 -- a badge that is not known is refused, whatever is told or asked of it
-unknown_reply : (g : Ground) (st : Standing) (b : ℕ) (e : Event) → leb g.content.badges b ≡ true → reply g st (call b e) ≡ Refused UnknownBadge
+unknown_reply : (g : Ground) (st : Standing) (b : ℕ) (e : Event) → leb g.content.badges b ≡ true → reply g st (call b e) ≡ Err UnknownBadge
 unknown_reply g st b (Report p) past = rw past
 unknown_reply g st b Miss past = rw past
 unknown_reply g st b (Open s) past = rw past

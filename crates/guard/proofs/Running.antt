@@ -5,7 +5,7 @@ use Rattle.plan.specs.Hall.{Hall}
 use Rattle.policy.specs.Contents.{Content, none}
 use Rattle.checks.specs.declared.faults.SealFault.{SealFault}
 use Rattle.calls.specs.declared.call.Call.{Call}
-use Rattle.calls.specs.declared.call.Answer.{Answer}
+use Rattle.calls.specs.Answers.{Answer}
 use Rattle.sealing.specs.Ground.{Ground, ground_of}
 use Rattle.sealing.specs.Outcome.{sealing, sealing_after, sealed_or}
 use Rattle.site.specs.declared.site.Site.{Site}

@@ -1,9 +1,8 @@
 -- What a guard keeps.
-use Rattle.std.specs.Prelude.{ℕ, [], slice_index_or}
+use Rattle.std.specs.Prelude.{ℕ, [], None, slice_index_or}
 use Rattle.plan.specs.Hall.{Hall}
 use Rattle.sealing.specs.Ground.{Ground}
 use Rattle.calls.specs.declared.badge.Badge.{Badge}
-use Rattle.calls.specs.declared.badge.Track.TheVariants.{Unheard}
 use Rattle.calls.specs.Kept.{standing_of}
 use Rattle.calls.specs.Standing.{Standing}
 use Rattle.site.specs.Kept.{ground}
@@ -11,7 +10,7 @@ use Rattle.guard.specs.declared.guard.Guard.{Guard}
 
 -- a badge that is not there: never heard, with no sessions
 abbrev pub absent : Badge
-absent = record { track = Unheard; sessions = [] }
+absent = record { track = None; sessions = [] }
 
 module _ {P : Type 0} where
   -- how badge b stands by what the guard keeps

@@ -8,7 +8,7 @@ use Rattle.checks.specs.declared.faults.SealFault.{SealFault}
 use Rattle.sealing.specs.Ground.{ground_of}
 use Rattle.sealing.specs.Outcome.{sealing}
 use Rattle.calls.specs.declared.call.Call.{Call}
-use Rattle.calls.specs.declared.call.Answer.{Answer}
+use Rattle.calls.specs.Answers.{Answer}
 use Rattle.history.specs.History.{accepted, after, answers_after, followed_by}
 use Rattle.history.specs.Laws.{ActiveBy, Exactly, answers_to, only}
 use Rattle.history.specs.Questions.{is_enabled}

@@ -1,5 +1,5 @@
 -- What one call does to a guard, and when a guard stands after a list of calls since its sealing.
-use Rattle.std.specs.Prelude.{◌≡◌, ℕ, true, false, cond, List, [], ◌∷◌, Ok, Result, ◌==◌}
+use Rattle.std.specs.Prelude.{◌≡◌, ℕ, true, false, cond, List, [], ◌∷◌, Ok, Err, Result, ◌==◌}
 use Rattle.plan.specs.Hall.{Hall}
 use Rattle.policy.specs.Contents.{Content}
 use Rattle.checks.specs.declared.faults.SealFault.{SealFault}
@@ -7,8 +7,8 @@ use Rattle.sealing.specs.Ground.{ground_of, ground_after}
 use Rattle.sealing.specs.Laws.{Fits, Lineage}
 use Rattle.sealing.specs.Outcome.{sealing, is_sealed, sealing_after, sealed_or, kept_unless}
 use Rattle.calls.specs.declared.call.Call.{Call}
-use Rattle.calls.specs.declared.call.Answer.{Answer}
-use Rattle.calls.specs.declared.call.Answer.TheVariants.{Granted, Refused}
+use Rattle.calls.specs.Answers.{Answer}
+use Rattle.calls.specs.declared.call.Reply.TheVariants.{Granted}
 use Rattle.calls.specs.declared.refusal.Refusal.TheVariants.{UnknownBadge}
 use Rattle.calls.specs.Standing.{Standing, nothing_yet}
 use Rattle.history.specs.Following.{settled, Agrees}
@@ -56,7 +56,7 @@ module _ {P : Type 0} (h : Hall) where
 
   -- before sealing every call and question is refused, since there are no badges
   abbrev pub UnsealedRefuses : Guard P → Answer → Type 0
-  UnsealedRefuses g a = is_sealed (ground_in h g).content ≡ false → a ≡ Refused UnknownBadge
+  UnsealedRefuses g a = is_sealed (ground_in h g).content ≡ false → a ≡ Err UnknownBadge
 
   -- wherever the guard stands after calls, a is the answer to e after them, and then it stands after e too
   abbrev pub Continues : Guard P → Guard P → Call → Answer → Type 0
@@ -69,4 +69,12 @@ module _ {P : Type 0} (h : Hall) where
   abbrev pub Grants : Guard P → ℕ → ℕ → ℕ → ℕ → Answer → Type 0
   Grants g b s operation object a =
       (ws : List ℕ) (c : Content) (calls : List Call) → Stands ws c calls g
-      → (r : ℕ) → BothWays (a ≡ Granted r) (LowestServes (ground_of h c) calls b s operation object r)
+      → (r : ℕ) → BothWays (a ≡ Ok (Granted r)) (LowestServes (ground_of h c) calls b s operation object r)
+
+-- the same where a plan means what `hall` says of it
+module _ {P : Type 0} (hall : P → Hall) where
+  abbrev pub PerformsBy : Guard P → Guard P → Call → Answer → Type 0
+  PerformsBy g = Performs (hall g.site.plan) g
+
+  abbrev pub ContinuesBy : Guard P → Guard P → Call → Answer → Type 0
+  ContinuesBy g = Continues (hall g.site.plan) g

@@ -3,12 +3,10 @@
 ghost use Rattle.calls.specs.declared.call.Event.TheVariants.{Where, Enabled, Roles, Ask};
 ghost use Rattle.decide.specs.Answers.{placed, judged, gathered, granted};
 ghost use Rattle.history.specs.Laws.{call};
-ghost use Rattle.guard.specs.Stands.{Continues, Grants, Performs};
+ghost use Rattle.guard.specs.Stands.{ContinuesBy, Grants, PerformsBy};
 
 use super::Guard;
 use calls::refusal::Refusal;
-use decide::ask::{ask, roles};
-use decide::located::{enabled, place};
 use plan::Plan;
 use sets::Set64;
 
@@ -16,29 +14,26 @@ impl<P: Plan> Guard<P> {
     /// The place where a badge is for a role: none if it was never heard, was missed too often or stands at no place of
     /// the role's logic type.
     pub fn place(&self, badge: u16, role: u16) -> Result<Option<usize>, Refusal>
-        ensures performs { Performs (P.Plan.hall self.now.site.plan) self.now self.now (call badge (Where role)) (placed result) }
-        ensures law { Continues (P.Plan.hall self.now.site.plan) self.now self.now (call badge (Where role)) (placed result) }
+        ensures performs { PerformsBy P.Plan.hall self.now self.now (call badge (Where role)) (placed result) }
+        ensures law { ContinuesBy P.Plan.hall self.now self.now (call badge (Where role)) (placed result) }
     {
-        let state = self.state(badge);
-        place(&self.site, badge, &state, role)
+        self.subject(badge).place(role)
     }
 
     /// Whether a role is enabled for a badge: it is at a place that lies in the role's extent.
     pub fn enabled(&self, badge: u16, role: u16) -> Result<bool, Refusal>
-        ensures performs { Performs (P.Plan.hall self.now.site.plan) self.now self.now (call badge (Enabled role)) (judged result) }
-        ensures law { Continues (P.Plan.hall self.now.site.plan) self.now self.now (call badge (Enabled role)) (judged result) }
+        ensures performs { PerformsBy P.Plan.hall self.now self.now (call badge (Enabled role)) (judged result) }
+        ensures law { ContinuesBy P.Plan.hall self.now self.now (call badge (Enabled role)) (judged result) }
     {
-        let state = self.state(badge);
-        enabled(&self.site, badge, &state, role)
+        self.subject(badge).enabled(role)
     }
 
     /// The roles that are active in a session of the badge and enabled.
     pub fn roles(&self, badge: u16, session: u16) -> Result<Set64, Refusal>
-        ensures performs { Performs (P.Plan.hall self.now.site.plan) self.now self.now (call badge (Roles session)) (gathered result) }
-        ensures law { Continues (P.Plan.hall self.now.site.plan) self.now self.now (call badge (Roles session)) (gathered result) }
+        ensures performs { PerformsBy P.Plan.hall self.now self.now (call badge (Roles session)) (gathered result) }
+        ensures law { ContinuesBy P.Plan.hall self.now self.now (call badge (Roles session)) (gathered result) }
     {
-        let state = self.state(badge);
-        roles(&self.site, badge, &state, session)
+        self.subject(badge).roles(session)
     }
 
     /// The lowest-numbered role by which a badge is granted an operation on an object in a session: the role is active
@@ -50,11 +45,10 @@ impl<P: Plan> Guard<P> {
         operation: u16,
         object: u16,
     ) -> Result<usize, Refusal>
-        ensures performs { Performs (P.Plan.hall self.now.site.plan) self.now self.now (call badge (Ask session operation object)) (granted result) }
-        ensures law { Continues (P.Plan.hall self.now.site.plan) self.now self.now (call badge (Ask session operation object)) (granted result) }
+        ensures performs { PerformsBy P.Plan.hall self.now self.now (call badge (Ask session operation object)) (granted result) }
+        ensures law { ContinuesBy P.Plan.hall self.now self.now (call badge (Ask session operation object)) (granted result) }
         ensures exactly { Grants (P.Plan.hall self.now.site.plan) self.now badge session operation object (granted result) }
     {
-        let state = self.state(badge);
-        ask(&self.site, badge, &state, session, operation, object)
+        self.subject(badge).ask(session, operation, object)
     }
 }

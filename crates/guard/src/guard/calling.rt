@@ -3,29 +3,44 @@
 ghost use Rattle.std.specs.Prelude.{◌≡◌, ℕ};
 ghost use Rattle.std.specs.Result.{result_err};
 ghost use Rattle.calls.specs.Kept.{standing_of};
+ghost use Rattle.calls.specs.declared.call.Event.{Event};
 ghost use Rattle.calls.specs.declared.call.Event.TheVariants.{Report, Miss, Open, Close, Activate, Drop as Dropped};
 ghost use Rattle.decide.specs.Answers.{done};
+ghost use Rattle.decide.specs.Subjects.{refused_by, reply_by};
 ghost use Rattle.history.specs.Laws.{call};
 ghost use Rattle.history.specs.Refusals.{refusal as refusal_of};
+ghost use Rattle.history.specs.Replies.{reply};
 ghost use Rattle.guard.specs.Kept.{kept_of, ground_in};
-ghost use Rattle.guard.specs.Stands.{Continues, Performs, kept_after};
+ghost use Rattle.guard.specs.Stands.{ContinuesBy, PerformsBy, kept_after};
 
 use super::Guard;
 use calls::badge::Badge;
 use calls::call::Event;
 use calls::refusal::Refusal;
-use decide::judge::refusal;
+use decide::subject::Subject;
 use plan::Plan;
 use point::Point;
 
 impl<P: Plan> Guard<P> {
     /// What is kept of a badge; one that is not there was never heard.
-    pub(crate) fn state(&self, badge: u16) -> Badge
+    fn state(&self, badge: u16) -> Badge
         ensures { standing_of result ≡ kept_of self.now badge }
     {
-        match self.badges.get(badge as usize) {
-            Some(kept) => *kept,
-            None => Badge::fresh(),
+        self.badges
+            .get(badge as usize)
+            .copied()
+            .unwrap_or_else(Badge::fresh)
+    }
+
+    /// A badge by its number and by what is kept of it, over the site.
+    pub(crate) fn subject(&self, badge: u16) -> Subject<'_, P>
+        ensures refuses { (e : Event) → refused_by P.Plan.hall result e ≡ refusal_of (ground_in (P.Plan.hall self.now.site.plan) self.now) (kept_of self.now badge) (call badge e) }
+        ensures replies { (e : Event) → reply_by P.Plan.hall result e ≡ reply (ground_in (P.Plan.hall self.now.site.plan) self.now) (kept_of self.now badge) (call badge e) }
+    {
+        Subject {
+            site: &self.site,
+            number: badge,
+            badge: self.state(badge),
         }
     }
 
@@ -35,58 +50,55 @@ impl<P: Plan> Guard<P> {
         ensures site { self.new.site ≡ self.old.site }
         ensures kept { (b : ℕ) → kept_of self.new b ≡ kept_after (P.Plan.hall self.old.site.plan) self.old (call badge event) b }
     {
-        let state = self.state(badge);
-        if let Some(refusal) = refusal(&self.site, badge, &state, event) {
-            return Err(refusal);
-        }
+        self.subject(badge).refusal(event)?;
         self.badges[badge as usize].apply(event);
         Ok(())
     }
 
     /// The badge was heard at a point: this is its position, with no misses.
     pub fn report(&mut self, badge: u16, at: Point) -> Result<(), Refusal>
-        ensures performs { Performs (P.Plan.hall self.old.site.plan) self.old self.new (call badge (Report at)) (done result) }
-        ensures law { Continues (P.Plan.hall self.old.site.plan) self.old self.new (call badge (Report at)) (done result) }
+        ensures performs { PerformsBy P.Plan.hall self.old self.new (call badge (Report at)) (done result) }
+        ensures law { ContinuesBy P.Plan.hall self.old self.new (call badge (Report at)) (done result) }
     {
         self.take(badge, Event::Report { at })
     }
 
     /// A sweep did not hear the badge: one miss more, up to the most; a badge never heard stays so.
     pub fn miss(&mut self, badge: u16) -> Result<(), Refusal>
-        ensures performs { Performs (P.Plan.hall self.old.site.plan) self.old self.new (call badge (Miss)) (done result) }
-        ensures law { Continues (P.Plan.hall self.old.site.plan) self.old self.new (call badge (Miss)) (done result) }
+        ensures performs { PerformsBy P.Plan.hall self.old self.new (call badge (Miss)) (done result) }
+        ensures law { ContinuesBy P.Plan.hall self.old self.new (call badge (Miss)) (done result) }
     {
         self.take(badge, Event::Miss)
     }
 
     /// Opens a session of the badge, with no role active.
     pub fn open(&mut self, badge: u16, session: u16) -> Result<(), Refusal>
-        ensures performs { Performs (P.Plan.hall self.old.site.plan) self.old self.new (call badge (Open session)) (done result) }
-        ensures law { Continues (P.Plan.hall self.old.site.plan) self.old self.new (call badge (Open session)) (done result) }
+        ensures performs { PerformsBy P.Plan.hall self.old self.new (call badge (Open session)) (done result) }
+        ensures law { ContinuesBy P.Plan.hall self.old self.new (call badge (Open session)) (done result) }
     {
         self.take(badge, Event::Open { session })
     }
 
     /// Closes a session of the badge, and ends all that is active in it.
     pub fn close(&mut self, badge: u16, session: u16) -> Result<(), Refusal>
-        ensures performs { Performs (P.Plan.hall self.old.site.plan) self.old self.new (call badge (Close session)) (done result) }
-        ensures law { Continues (P.Plan.hall self.old.site.plan) self.old self.new (call badge (Close session)) (done result) }
+        ensures performs { PerformsBy P.Plan.hall self.old self.new (call badge (Close session)) (done result) }
+        ensures law { ContinuesBy P.Plan.hall self.old self.new (call badge (Close session)) (done result) }
     {
         self.take(badge, Event::Close { session })
     }
 
     /// Makes a role active in a session of the badge.
     pub fn activate(&mut self, badge: u16, session: u16, role: u16) -> Result<(), Refusal>
-        ensures performs { Performs (P.Plan.hall self.old.site.plan) self.old self.new (call badge (Activate session role)) (done result) }
-        ensures law { Continues (P.Plan.hall self.old.site.plan) self.old self.new (call badge (Activate session role)) (done result) }
+        ensures performs { PerformsBy P.Plan.hall self.old self.new (call badge (Activate session role)) (done result) }
+        ensures law { ContinuesBy P.Plan.hall self.old self.new (call badge (Activate session role)) (done result) }
     {
         self.take(badge, Event::Activate { session, role })
     }
 
     /// Makes a role inactive in a session of the badge.
     pub fn drop(&mut self, badge: u16, session: u16, role: u16) -> Result<(), Refusal>
-        ensures performs { Performs (P.Plan.hall self.old.site.plan) self.old self.new (call badge (Dropped session role)) (done result) }
-        ensures law { Continues (P.Plan.hall self.old.site.plan) self.old self.new (call badge (Dropped session role)) (done result) }
+        ensures performs { PerformsBy P.Plan.hall self.old self.new (call badge (Dropped session role)) (done result) }
+        ensures law { ContinuesBy P.Plan.hall self.old self.new (call badge (Dropped session role)) (done result) }
     {
         self.take(badge, Event::Drop { session, role })
     }

@@ -1,17 +1,14 @@
 //! Any call as a value, and whole runs of calls from the sealing on.
 
 ghost use Rattle.std.specs.Prelude.{◌≡◌, true, is_err, IfOk};
-ghost use Rattle.decide.specs.Answers.{done, placed, judged, gathered, granted};
 ghost use Rattle.guard.specs.Runs.{Lawful, Replays, Told, answers_of};
-ghost use Rattle.guard.specs.Stands.{Continues, Performs, UnsealedRefuses};
+ghost use Rattle.guard.specs.Stands.{ContinuesBy, PerformsBy, UnsealedRefuses};
 ghost use Rattle.guard.specs.declared.guard.RunFault.TheVariants.{Seal as InRun, Memory as NoMemory};
 
 use super::{Guard, RunFault};
-use calls::call::{Answer, Call, Event};
-use calls::refusal::Refusal;
+use calls::call::{Answer, Call, Event, Reply};
 use checks::faults::SealFault;
 use plan::Plan;
-use sets::Set64;
 use std::alloc::{AllocError, Global};
 
 impl From<SealFault> for RunFault {
@@ -30,79 +27,33 @@ impl From<AllocError> for RunFault {
     }
 }
 
-/// The answer that the result of a call stands for.
-fn told(res: Result<(), Refusal>) -> Answer
-    ensures { result ≡ done res }
-{
-    match res {
-        Ok(()) => Answer::Done,
-        Err(refusal) => Answer::Refused(refusal),
-    }
-}
-
-/// The answer to the question where a badge is.
-fn located(res: Result<Option<usize>, Refusal>) -> Answer
-    ensures { result ≡ placed res }
-{
-    match res {
-        Ok(place) => Answer::Place(place),
-        Err(refusal) => Answer::Refused(refusal),
-    }
-}
-
-/// The answer to the question whether a role is enabled.
-fn decided(res: Result<bool, Refusal>) -> Answer
-    ensures { result ≡ judged res }
-{
-    match res {
-        Ok(verdict) => Answer::Verdict(verdict),
-        Err(refusal) => Answer::Refused(refusal),
-    }
-}
-
-/// The answer to the question which roles are active and enabled.
-fn listed(res: Result<Set64, Refusal>) -> Answer
-    ensures { result ≡ gathered res }
-{
-    match res {
-        Ok(roles) => Answer::RoleSet(roles),
-        Err(refusal) => Answer::Refused(refusal),
-    }
-}
-
-/// The answer to the question by which role a right is granted.
-fn asked(res: Result<usize, Refusal>) -> Answer
-    ensures { result ≡ granted res }
-{
-    match res {
-        Ok(role) => Answer::Granted(role),
-        Err(refusal) => Answer::Refused(refusal),
-    }
-}
-
 impl<P: Plan> Guard<P> {
     /// Makes a call, whatever it is.
     pub fn perform(&mut self, call: Call) -> Answer
-        ensures performs { Performs (P.Plan.hall self.old.site.plan) self.old self.new call result }
-        ensures law { Continues (P.Plan.hall self.old.site.plan) self.old self.new call result }
+        ensures performs { PerformsBy P.Plan.hall self.old self.new call result }
+        ensures law { ContinuesBy P.Plan.hall self.old self.new call result }
         ensures unsealed { UnsealedRefuses (P.Plan.hall self.old.site.plan) self.old result }
     {
         let badge = call.badge;
         match call.event {
-            Event::Report { at } => told(self.report(badge, at)),
-            Event::Miss => told(self.miss(badge)),
-            Event::Open { session } => told(self.open(badge, session)),
-            Event::Close { session } => told(self.close(badge, session)),
-            Event::Activate { session, role } => told(self.activate(badge, session, role)),
-            Event::Drop { session, role } => told(self.drop(badge, session, role)),
-            Event::Where { role } => located(self.place(badge, role)),
-            Event::Enabled { role } => decided(self.enabled(badge, role)),
-            Event::Roles { session } => listed(self.roles(badge, session)),
+            Event::Report { at } => self.report(badge, at).map(|()| Reply::Done),
+            Event::Miss => self.miss(badge).map(|()| Reply::Done),
+            Event::Open { session } => self.open(badge, session).map(|()| Reply::Done),
+            Event::Close { session } => self.close(badge, session).map(|()| Reply::Done),
+            Event::Activate { session, role } => self
+                .activate(badge, session, role)
+                .map(|()| Reply::Done),
+            Event::Drop { session, role } => self.drop(badge, session, role).map(|()| Reply::Done),
+            Event::Where { role } => self.place(badge, role).map(Reply::Place),
+            Event::Enabled { role } => self.enabled(badge, role).map(Reply::Verdict),
+            Event::Roles { session } => self.roles(badge, session).map(Reply::RoleSet),
             Event::Ask {
                 session,
                 operation,
                 object,
-            } => asked(self.ask(badge, session, operation, object)),
+            } => self
+                .ask(badge, session, operation, object)
+                .map(Reply::Granted),
         }
     }
 
@@ -132,8 +83,7 @@ fn answered<P: Plan + Drop>(
 {
     let mut guard = Guard::new(plan, heap)?;
     guard.seal(words)?;
-    let answers = guard.replay(calls, heap)?;
-    Ok(answers)
+    Ok(guard.replay(calls, heap)?)
 }
 
 /// Seals the policy that the words say over a plan, makes the calls, and gives their answers. For every make of plan and

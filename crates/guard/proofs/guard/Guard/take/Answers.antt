@@ -1,6 +1,5 @@
 -- `take`: an event that is not refused moves its badge.
-use Rattle.std.proofs.Common.{◌≡◌, ◌<◌, length, None, refl, ap, ◌∙◌, rules}
-use Rattle.calls.specs.Standing.{Standing}
+use Rattle.std.proofs.Common.{◌≡◌, ◌<◌, length, None, refl, ◌∙◌, rules}
 use Rattle.history.specs.Laws.{call}
 use Rattle.history.specs.Refusals.{refusal}
 use Rattle.rights.proofs.Counts.{roles_few}
@@ -14,7 +13,7 @@ returns g c =
     let n = c.args.badge in
     let gr = ground_in (g.P.Plan.hall v.site.plan) v in
     let within : n < length v.badges = search rules in
-    let fine : None ≡ refusal gr (kept_of v n) (call n c.args.event) = c.in_default.ensures ∙ ap (λ (st : Standing). refusal gr st (call n c.args.event)) c.state-state.ensures in
+    let fine : None ≡ refusal gr (kept_of v n) (call n c.args.event) = c.in_ok-refusal.ensures ∙ c.subject.ensures.refuses c.args.event in
     record {
       refused = fine;
       site = refl;

@@ -8,33 +8,20 @@ use std::env;
 use std::io::Read;
 use std::process::ExitCode;
 
-fn help(rt: &HostRuntime) -> anyhow::Result<()> {
-    println!(rt; "usage: plancheck [map | help] < TEXT")?;
-    println!(rt; "")?;
-    println!(rt;
-        "Reads a floor plan as text, accepts it or tells its fault, and tells of each place"
-    )?;
-    println!(rt; "its number, its type and how many points of the floor it covers.")?;
-    println!(rt; "")?;
-    println!(rt; "  map    draws each place too: # for a point that it covers, . for any other")?;
-    println!(rt; "  help   prints this")?;
-    println!(rt; "")?;
-    println!(rt;
-        "The text: a line `drawn` or `cells`, and after it lines of hexadecimal words, up to eight"
-    )?;
-    println!(rt;
-        "digits each, with spaces between them. Then up to two sections of the same form that begin"
-    )?;
-    println!(rt;
-        "with a line `zones`, and last a section `policy`. From # to the end of a line is comment."
-    )?;
-    println!(rt; "")?;
-    println!(rt;
-        "Lines that begin with a space explain; the others have fixed forms for a script to read."
-    )?;
-    println!(rt; "Status 0 if all is accepted, 1 if something is refused.")?;
-    Ok(())
-}
+const HELP: &str = "usage: plancheck [map | help] < TEXT
+
+Reads a floor plan as text, accepts it or tells its fault, and tells of each place
+its number, its type and how many points of the floor it covers.
+
+  map    draws each place too: # for a point that it covers, . for any other
+  help   prints this
+
+The text: a line `drawn` or `cells`, and after it lines of hexadecimal words, up to eight
+digits each, with spaces between them. Then up to two sections of the same form that begin
+with a line `zones`, and last a section `policy`. From # to the end of a line is comment.
+
+Lines that begin with a space explain; the others have fixed forms for a script to read.
+Status 0 if all is accepted, 1 if something is refused.";
 
 /// Checks what stands on standard input.
 fn check_input(rt: &HostRuntime, map: bool) -> anyhow::Result<()> {
@@ -51,18 +38,19 @@ fn check_input(rt: &HostRuntime, map: bool) -> anyhow::Result<()> {
 fn run(rt: &HostRuntime) -> anyhow::Result<()> {
     let mut args = env::args(rt)?;
     let _program = args.next();
-    let Some(word) = args.next() else {
-        return check_input(rt, false);
-    };
+    let word = args.next();
     let alone = args.next().is_none();
-    if alone && word.as_str() == "map" {
-        return check_input(rt, true);
-    }
-    help(rt)?;
-    if alone && word.as_str() == "help" {
-        Ok(())
-    } else {
-        Err(anyhow!("no such argument"))
+    match word.as_ref().map(|word| word.as_str()) {
+        None => check_input(rt, false),
+        Some("map") if alone => check_input(rt, true),
+        Some("help") if alone => {
+            rt.println(HELP)?;
+            Ok(())
+        }
+        Some(_) => {
+            rt.println(HELP)?;
+            Err(anyhow!("no such argument"))
+        }
     }
 }
 

@@ -25,9 +25,6 @@ pub trait Drafted: WordList {
     /// What is kept.
     ghost said: { Self.Kept → Content };
 
-    /// Whether a list may be read over this ground.
-    ghost bears: { Self.Ground → Type 0 };
-
     /// Nothing is read yet, over this ground.
     ghost begun: { Self.Ground → Self → Type 0 };
 
@@ -36,7 +33,6 @@ pub trait Drafted: WordList {
 
     /// Starts anew.
     fn begin(&mut self, ground: Self::Ground)
-        requires { bears ground }
         ensures { begun ground self.new };
 
     /// Gives what was read for what it replaces.
@@ -54,7 +50,6 @@ pub fn keep<D: Drafted>(
     kept: &mut D::Kept,
     words: &[u32],
 ) -> Result<(), RecordFault>
-    requires { D.bears ground }
     ensures answer { result ≡ answered (D.outcome ground words.now) }
     ensures after { D.said kept.new ≡ replaced (D.said kept.old) (D.outcome ground words.now) }
     ensures draft { D.begun ground draft.new }

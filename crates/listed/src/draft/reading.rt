@@ -141,8 +141,6 @@ impl<S: Shape + Drop> Drafted for Draft<S> {
 
     ghost said = { layout_of S.Shape.model };
 
-    ghost bears = { λ _. Unit {0} };
-
     ghost begun = { λ _ d. progress_of S.Shape.model d ≡ start };
 
     ghost outcome = { λ _ ws. layout_from S.Shape.make ws };

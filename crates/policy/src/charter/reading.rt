@@ -1,6 +1,6 @@
 //! How a list is read into a charter. What goes by kind is a match, since each kind has a shelf of its own type.
 
-ghost use Rattle.std.specs.Prelude.{◌≡◌, IfOk, ⊤};
+ghost use Rattle.std.specs.Prelude.{◌≡◌, IfOk};
 ghost use Rattle.wordlist.specs.Fields.{kind_of};
 ghost use Rattle.wordlist.specs.Given.{given_from};
 ghost use Rattle.wordlist.specs.Kinds.{number_of};
@@ -187,8 +187,6 @@ impl Drafted for Charter {
     ghost content = { content_of };
 
     ghost said = { content_of };
-
-    ghost bears = { λ _. ⊤ };
 
     ghost begun = { λ _ c. content_of c ≡ none };
 

@@ -1,6 +1,6 @@
 //! How a zone list is read into a draft.
 
-ghost use Rattle.std.specs.Prelude.{◌≡◌, ◌+◌, ◌≤◌, List, length, IfOk};
+ghost use Rattle.std.specs.Prelude.{◌≡◌, ◌+◌, ◌≤◌, List, length, min, IfOk};
 ghost use Rattle.plan.specs.Hall.{most_places};
 ghost use Rattle.wordlist.specs.Given.{given_from};
 ghost use Rattle.zones.specs.declared.zone.Zone.{Zone as Kept};
@@ -78,17 +78,15 @@ impl Drafted for Draft {
 
     ghost said = { λ s. s.records.items };
 
-    ghost bears = { λ below. below ≤ most_places };
+    ghost begun = { λ below d. progress_of d ≡ start (min below most_places) };
 
-    ghost begun = { λ below d. progress_of d ≡ start below };
+    ghost outcome = { λ below ws. zones_from (min below most_places) ws };
 
-    ghost outcome = { zones_from };
-
-    ghost reads = { λ below d e a ws. given_from progress_of (λ s. s.zones) zone_rules (start below) d e a ws };
+    ghost reads = { λ below d e a ws. given_from progress_of (λ s. s.zones) zone_rules (start (min below most_places)) d e a ws };
 
     fn begin(&mut self, below: usize) {
         self.zones.clear();
-        self.below = below;
+        self.below = below.min(64);
     }
 
     fn exchange(&mut self, zones: &mut Shelf<Zone, 64>) {

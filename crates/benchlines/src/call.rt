@@ -14,6 +14,7 @@ pub const LONGEST_LINE: usize = 32;
 pub const MOST_DIGITS: usize = 3;
 
 /// The call that a line makes; none where the line is bad.
+// Each letter has its own number of arguments and so its own type of array: `map` over them was not proved.
 pub fn call_of(line: &[u8]) -> Option<Call>
     ensures { result ≡ line_call line.now }
 {

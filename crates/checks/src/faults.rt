@@ -52,7 +52,7 @@ impl From<RecordFault> for SealFault {
     }
 }
 
-/// A fault of sealing itself.
+/// What a fault of sealing itself says, which seven cases share.
 fn of_sealing(number: u8, figures: [usize; 3]) -> Told
     ensures { result ≡ of_sealing_spec number figures }
 {

@@ -29,6 +29,7 @@ fn first<F: Fn(usize) -> Result<(), SealFault>>(n: usize, check: F) -> Result<()
     requires { F.IsAlwaysCallable check }
     ensures { (finds : ℕ → Maybe Found) → FindsBy n (F.post check) finds → result_err result ≡ first_of n finds }
 {
+    // `try_for_each` is no shorter, and no lemma says what it answers over a range
     for k in 0..n {
         check(k)?;
     }

@@ -18,6 +18,7 @@ pub struct Guard<P: Plan> {
 }
 
 /// Why a whole run gives no answers.
+// Not one type with the bench's fault, which also has that of its plan, and keeps what the allocator said.
 #[derive(Clone, Copy)]
 pub enum RunFault {
     /// The policy is not sealed.

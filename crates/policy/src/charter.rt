@@ -12,6 +12,7 @@ ghost use Rattle.policy.specs.Facts.{BadgesIn, ChildrenIn, HoldersIn, OwnersIn, 
 /// The number of badges and the records of each kind. The keys of a kind rise, and what a record refers to is there.
 #[derive(Drop)]
 pub struct Charter {
+    // No Option: none is 0, as the policy's meaning has it.
     pub(crate) badges: u8,
     pub(crate) schemas: Shelf<Schema, 32>,
     pub(crate) parents: Rising<Parent, 64>,

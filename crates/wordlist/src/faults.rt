@@ -37,6 +37,7 @@ impl From<WordFault> for RecordFault {
 }
 
 /// What a fault says of itself: its number, its layer and up to three figures, the rest zero.
+// Numbers, since these are what is printed; the fault itself is the enum.
 #[derive(Clone, Copy, Debug, PartialEq, Eq)]
 pub struct Told {
     pub number: u8,

@@ -22,6 +22,7 @@ pub trait WordList {
     ghost state: { Self → State };
 
     /// Whether the list has words of this kind.
+    // By its number, since a word may have one that names no kind.
     fn belongs(&self, kind: u32) -> bool
         ensures { result ≡ Self.rules.member kind };
 

@@ -29,6 +29,7 @@ fn covered<P: Plan>(plan: &P) -> u64 {
     let mut all = 0u64;
     for y in 0..plan.height() {
         for x in 0..plan.width() {
+            // a loop: with `filter` and `count` the measured time is a tenth longer
             for place in 0..plan.count() {
                 if plan.covers(place, Point { x, y }) {
                     all = all.wrapping_add(1);

@@ -23,6 +23,7 @@ fn has_column(row: u16, column: u16) -> bool
 }
 
 /// The row that a word says.
+// No `From`: neither a word nor a row is a type of this crate.
 fn row(word: u32) -> u16
     ensures { result ≡ row_of word }
 {

@@ -16,6 +16,7 @@ use wordlist::fields::bits;
 use wordlist::kinds::Kind;
 
 /// The corner that a word says.
+// No `From`: neither a word nor a point is a type of this crate.
 fn corner(word: u32) -> Point
     ensures { result ≡ corner_of word }
 {

@@ -13,6 +13,7 @@ ghost use Rattle.plan.specs.Hall.{most_side};
 pub struct Sheet<S> {
     pub(crate) floor: Floor,
     pub(crate) places: Shelf<S, 64>,
+    // Of the sheet and not of its floor: a shape is asked of any floor.
     ghost wide: { 1 ≤ floor.width },
     ghost narrow: { floor.width ≤ most_side },
     ghost tall: { 1 ≤ floor.height },

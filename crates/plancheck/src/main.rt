@@ -54,7 +54,7 @@ fn run(rt: &HostRuntime) -> anyhow::Result<()> {
     }
 }
 
-// What went wrong is said by the status alone, apart from what was printed.
+// What went wrong is said by the status alone, apart from what was printed. The bench ends so too, and shares no crate for it.
 fn main(rt: HostRuntime) -> ExitCode {
     match run(&rt) {
         Ok(()) => ExitCode::SUCCESS,

@@ -12,6 +12,8 @@ use policy::policy::Policy;
 use std::alloc::{AllocError, Global};
 use wordlist::faults::Told;
 
+// Functions, and no types that print themselves: each would borrow a plan or a policy for the one line that it is.
+
 /// A plan was read: its floor and the number of its places.
 pub fn plan_line<P: Plan>(heap: Global, plan: &P) -> Result<String, AllocError>
     ensures { IfOk result (λ s. string_bytes s ≡ plan_line_spec (P.hall plan.now)) }

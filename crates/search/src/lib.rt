@@ -41,6 +41,7 @@ pub fn gather<F: Fn(usize) -> bool>(passes: F) -> Set64
     ensures value { (p : ℕ → Bool) → AnswersBy 64 (F.post passes) p → result ≡ gathered p }
 {
     let mut found = Set64::none();
+    // the numbers are asked, and index nothing; a fold over the range is no shorter
     for k in 0..64 {
         found = noted(found, k, passes(k));
     }

@@ -82,6 +82,7 @@ impl Page {
         &self.words[start..end]
     }
 
+    // That the room stays is said by each that changes a page: what was before a call is no fact of the type.
     fn clear(&mut self)
         ensures content { content_of self.new ≡ blank }
         ensures len { vec_len self.new.words ≡ 0 }

@@ -8,32 +8,24 @@ use std::env;
 use std::io::Read;
 use std::process::ExitCode;
 
-fn help(rt: &HostRuntime) -> anyhow::Result<()> {
-    println!(rt; "usage: bench [help] < CALLS")?;
-    println!(rt; "")?;
-    println!(rt;
-        "Puts calls to a guard, one for each line, and prints a line for each. The hall of eight by"
-    )?;
-    println!(rt;
-        "eight and its policy are built in. The numbers have one to three decimal digits."
-    )?;
-    println!(rt; "")?;
-    println!(rt; "  R badge x y                         the badge was heard at (x,y)")?;
-    println!(rt; "  M badge                             a sweep did not hear the badge")?;
-    println!(rt; "  O badge session                     opens a session, 0 to 3")?;
-    println!(rt; "  C badge session                     closes it")?;
-    println!(rt; "  A badge session role                makes a role active in it")?;
-    println!(rt; "  D badge session role                makes a role inactive in it")?;
-    println!(rt; "  Q badge session operation object    asks for a right")?;
-    println!(rt; "")?;
-    println!(rt;
-        "Printed: `ok`, `grant` and the role that grants, `no` and the number of the refusal, `bad` for"
-    )?;
-    println!(rt;
-        "a line of another form. An input of more than 32768 bytes prints `long` and nothing else."
-    )?;
-    Ok(())
-}
+/// What `help` prints.
+const HELP: &str = "\
+usage: bench [help] < CALLS
+
+Puts calls to a guard, one for each line, and prints a line for each. The hall of eight by
+eight and its policy are built in. The numbers have one to three decimal digits.
+
+  R badge x y                         the badge was heard at (x,y)
+  M badge                             a sweep did not hear the badge
+  O badge session                     opens a session, 0 to 3
+  C badge session                     closes it
+  A badge session role                makes a role active in it
+  D badge session role                makes a role inactive in it
+  Q badge session operation object    asks for a right
+
+Printed: `ok`, `grant` and the role that grants, `no` and the number of the refusal, `bad` for
+a line of another form. An input of more than 32768 bytes prints `long` and nothing else.
+";
 
 /// Answers what stands on standard input. One byte more than is answered shows that it is too long; there is no fault but
 /// want of memory.
@@ -42,13 +34,9 @@ fn answer_input(rt: &HostRuntime) -> anyhow::Result<()> {
     rt.stdin()
         .take(LONGEST_INPUT as u64 + 1)
         .read_to_end(&mut input)?;
-    match session(&input, rt.alloc()) {
-        Ok(text) => {
-            print!(rt; "{text}")?;
-            Ok(())
-        }
-        Err(_) => Err(anyhow!("no memory")),
-    }
+    let text = session(&input, rt.alloc()).map_err(|_| anyhow!("no memory"))?;
+    print!(rt; "{text}")?;
+    Ok(())
 }
 
 /// Does what the one argument says, if there is one.
@@ -59,7 +47,7 @@ fn run(rt: &HostRuntime) -> anyhow::Result<()> {
         return answer_input(rt);
     };
     let alone = args.next().is_none();
-    help(rt)?;
+    print!(rt; "{HELP}")?;
     if alone && word.as_str() == "help" {
         Ok(())
     } else {

@@ -3,16 +3,13 @@ use Rattle.std.proofs.Common.{◌≡◌, ℕ, cond, List, ◌++◌, is_ok, IfOk,
 use Rattle.std.specs.Option.{option_map}
 use Rattle.plan.specs.Hall.{Hall}
 use Rattle.calls.specs.declared.call.Call.{Call}
-use Rattle.calls.specs.declared.call.Answer.{Answer}
+use Rattle.calls.specs.Answers.{Answer}
 use Rattle.guard.specs.declared.guard.Guard.{Guard}
-use Rattle.guard.specs.Stands.{Performs, Continues}
+use Rattle.guard.specs.Stands.{Continues}
 use Rattle.benchrun.specs.Lines.{Answers, GoesOn, PrintsOn, reply_to}
 use Rattle.benchrun.specs.Printed.{text_of}
 
 module _ {P : Type 0} (h : Hall) (g g' : Guard P) (e : Call) (a : Answer) where
-  pub puts : (call : Option Call) → Some e ≡ call → Performs h g g' e a → Answers h g g' call (Some a)
-  puts call is so = subst (λ (o : Option Call). Answers h g g' o (Some a)) is (record { answered = ap Some so.answered; site = so.site; kept = so.kept })
-
   pub goes_on : (call : Option Call) → Some e ≡ call → Continues h g g' e a → GoesOn h g g' call (Some a)
   goes_on call is law =
       subst (λ (o : Option Call). GoesOn h g g' o (Some a)) is (λ ws c calls st. let next = law ws c calls st in (ap Some next.0, next.1))

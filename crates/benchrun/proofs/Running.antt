@@ -1,5 +1,5 @@
 -- Lines of an input, one after another.
-use Rattle.std.proofs.Common.{◌≡◌, ℕ, Bool, false, cond, List, [], ◌∷◌, ◌++◌, None, codes, Option, sym, ap, ◌∙◌, subst, arith}
+use Rattle.std.proofs.Common.{◌≡◌, ℕ, Bool, false, cond, List, [], ◌∷◌, ◌++◌, codes, Option, sym, ap, ◌∙◌, subst, arith}
 use Rattle.std.proofs.lemmas.List.{append_assoc, append-nil}
 use Rattle.plan.specs.Hall.{Hall}
 use Rattle.policy.specs.Contents.{Content}
@@ -8,7 +8,7 @@ use Rattle.sealing.specs.Ground.{ground_of}
 use Rattle.site.specs.declared.site.Site.{Site}
 use Rattle.guard.specs.declared.guard.Guard.{Guard}
 use Rattle.guard.specs.Stands.{Stands}
-use Rattle.benchlines.specs.Input.{lines_of, first}
+use Rattle.benchlines.specs.Input.{lines_of}
 use Rattle.benchlines.specs.Lines.{line_call}
 use Rattle.benchrun.specs.Printed.{calls_of, ended, line_texts, line_text, too_long, with_call, with_calls, printed}
 
@@ -33,7 +33,7 @@ module _ {P : Type 0} (h : Hall) where
 
   -- with no line left, all is printed, and all calls are made
   pub all_printed :
-      (g g' : Guard P) (input text : List ℕ) (left : List (List ℕ)) → None ≡ first left → false ≡ too_long input
+      (g g' : Guard P) (input text : List ℕ) (left : List (List ℕ)) → left ≡ [] → false ≡ too_long input
       → GoesSo g g' (lines_of input) text left
       → (ws : List ℕ) (c : Content) → Stands h ws c [] g → (text ≡ printed (ground_of h c) input) × Stands h ws c (calls_of input) g'
   all_printed g g' input text [] none short so ws c st =

@@ -4,7 +4,7 @@ use Rattle.std.specs.Option.{option_map}
 use Rattle.plan.specs.Hall.{Hall}
 use Rattle.policy.specs.Contents.{Content}
 use Rattle.calls.specs.declared.call.Call.{Call}
-use Rattle.calls.specs.declared.call.Answer.{Answer}
+use Rattle.calls.specs.Answers.{Answer}
 use Rattle.calls.specs.Standing.{Standing}
 use Rattle.sealing.specs.Ground.{ground_of}
 use Rattle.history.specs.History.{answer}

@@ -2,7 +2,7 @@
 use Rattle.std.specs.Prelude.{ℕ, Bool, cond, List, [], ◌∷◌, ◌++◌, length, Some, None, codes, Option, nat_lt}
 use Rattle.std.specs.Option.{option_map}
 use Rattle.calls.specs.declared.call.Call.{Call}
-use Rattle.calls.specs.declared.call.Answer.{Answer}
+use Rattle.calls.specs.Answers.{Answer}
 use Rattle.sealing.specs.Ground.{Ground}
 use Rattle.history.specs.History.{answer}
 use Rattle.benchlines.specs.Answers.{answer_text}

@@ -23,10 +23,8 @@ fn put<P: Plan>(guard: &mut Guard<P>, line: &[u8]) -> Option<Answer>
     ensures answers { Answers (P.Plan.hall guard.old.site.plan) guard.old guard.new (line_call line.now) result }
     ensures law { GoesOn (P.Plan.hall guard.old.site.plan) guard.old guard.new (line_call line.now) result }
 {
-    match call_of(line) {
-        Some(call) => Some(guard.perform(call)),
-        None => None,
-    }
+    let call = call_of(line)?;
+    Some(guard.perform(call))
 }
 
 /// What is printed for an answer, or for a bad line where there is none.
@@ -71,8 +69,7 @@ pub fn run_text<P: Plan>(
         return String::from_str(heap, "long\n");
     }
     let mut out = String::new(heap);
-    let mut lines = Lines::new(input);
-    while let Some(line) = lines.next() {
+    for line in Lines::new(input) {
         answer_to(guard, line, &mut out, heap)?;
     }
     Ok(out)

@@ -1,5 +1,5 @@
 -- Worked answers over the hall of eight by eight, by the calls alone. A list of calls has the newest first.
-use Rattle.std.specs.Prelude.{◌≡◌, ℕ, List, [], ◌∷◌, Ok}
+use Rattle.std.specs.Prelude.{◌≡◌, ℕ, List, [], ◌∷◌, Ok, Err}
 use Rattle.std.specs.Result.{result_unwrap_or}
 use Rattle.policy.specs.Contents.{Content, none}
 use Rattle.policy.specs.Worked.{hall_words}
@@ -7,8 +7,8 @@ use Rattle.sealing.specs.Ground.{Ground, ground_of}
 use Rattle.sealing.specs.Outcome.{sealing}
 use Rattle.calls.specs.declared.call.Call.{Call}
 use Rattle.calls.specs.declared.call.Event.TheVariants.{Report, Miss, Open, Activate, Ask}
-use Rattle.calls.specs.declared.call.Answer.{Answer}
-use Rattle.calls.specs.declared.call.Answer.TheVariants.{Done, Granted, Refused}
+use Rattle.calls.specs.Answers.{Answer}
+use Rattle.calls.specs.declared.call.Reply.TheVariants.{Done, Granted}
 use Rattle.calls.specs.declared.refusal.Refusal.TheVariants.{NotEntitled, NoRole, OutOfPatience, NotEnabled}
 use Rattle.history.specs.History.{answer}
 use Rattle.history.specs.Laws.{call}
@@ -42,16 +42,16 @@ abbrev pub Rows : Type 0
 Rows =
     (sealing eight hall_words ≡ Ok policy)
     -- badge 0 is entitled to role 0, an ancestor of role 1; badge 1 is not entitled to role 1
-    × (answer hall (call 0 (Open 0) ∷ []) (call 0 (Activate 0 0)) ≡ Done)
-    × (answer hall (call 1 (Open 0) ∷ []) (call 1 (Activate 0 1)) ≡ Refused NotEntitled)
+    × (answer hall (call 0 (Open 0) ∷ []) (call 0 (Activate 0 0)) ≡ Ok Done)
+    × (answer hall (call 1 (Open 0) ∷ []) (call 1 (Activate 0 1)) ≡ Err NotEntitled)
     -- never heard; neither role has operation 3
-    × (asked begun 2 ≡ Refused OutOfPatience)
-    × (asked begun 3 ≡ Refused NoRole)
+    × (asked begun 2 ≡ Err OutOfPatience)
+    × (asked begun 3 ≡ Err NoRole)
     -- role 1 alone has operation 2; both have operation 1, and role 0 is the lowest
-    × (asked (heard 2 2) 2 ≡ Granted 1)
-    × (asked (heard 2 2) 1 ≡ Granted 0)
+    × (asked (heard 2 2) 2 ≡ Ok (Granted 1))
+    × (asked (heard 2 2) 1 ≡ Ok (Granted 0))
     -- no place of type 2 covers (3,2)
-    × (asked (heard 3 2) 2 ≡ Refused NotEnabled)
+    × (asked (heard 3 2) 2 ≡ Err NotEnabled)
     -- one miss is more than role 1 bears, and not more than role 0
-    × (asked missed 2 ≡ Refused OutOfPatience)
-    × (asked missed 1 ≡ Granted 0)
+    × (asked missed 2 ≡ Err OutOfPatience)
+    × (asked missed 1 ≡ Ok (Granted 0))

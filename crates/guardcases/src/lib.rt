@@ -5,15 +5,11 @@ ghost use Rattle.guardcases.specs.Rows.{Rows};
 ghost use Rattle.guardcases.specs.Sessions.{Sessions};
 
 /// The answers to worked calls, from the sealing on.
-pub fn answers_stand() -> u8
+pub fn answers_stand()
     ensures { Rows }
-{
-    0
-}
+{}
 
 /// What the bench prints for worked inputs.
-pub fn sessions_stand() -> u8
+pub fn sessions_stand()
     ensures { Sessions }
-{
-    0
-}
+{}

@@ -7,6 +7,7 @@ use calls::call::{Answer, Reply};
 use std::alloc::{AllocError, Global};
 
 /// The line of an answer, without its line feed.
+// A function and no Display: an answer is a Result, which prints in std's way.
 pub fn answer_line(heap: Global, answer: Answer) -> Result<String, AllocError>
     ensures { IfOk result (λ s. string_bytes s ≡ answer_text answer) }
 {

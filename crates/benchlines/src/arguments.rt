@@ -21,6 +21,7 @@ fn digits(line: &[u8], most: usize) -> Option<(u16, &[u8])>
 {
     let mut number = 0u16;
     let mut rest = line;
+    // at most so many steps: `take_while` would not give what is left
     for _ in 0..most {
         let Some((digit, after)) = digit(rest) else {
             break;

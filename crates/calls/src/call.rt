@@ -40,6 +40,7 @@ pub enum Event {
         session: u16,
     },
     /// By which role is the operation on the object granted?
+    // Two numbers, here and in what is asked of roles and permissions: a line and a permission's key have each apart.
     Ask {
         session: u16,
         operation: u16,

@@ -36,6 +36,7 @@ pub enum Refusal {
 
 impl Refusal {
     /// The refusal's number.
+    // By its name, and no From: a number says nothing of what it numbers.
     pub fn number(self) -> u8
         ensures { result ≡ number_of (self) }
     {

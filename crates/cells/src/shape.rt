@@ -16,6 +16,7 @@ use wordlist::fields::bits;
 use wordlist::kinds::Kind;
 
 /// Whether bit `column` of a row is set.
+// No set of 64 of it: one would be made for each point that is asked.
 fn has_column(row: u16, column: u16) -> bool
     ensures { result ≡ member row column }
 {

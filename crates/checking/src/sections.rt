@@ -28,14 +28,13 @@ struct Report<'a> {
     map: bool,
 }
 
+// What is accepted goes on in another way in each section, so each has its own match on the answer.
 impl Report<'_> {
     /// The plan with the zones of section `k` over it, unless they are refused.
     fn piled<P: Plan + Drop>(&self, k: usize, plan: P) -> anyhow::Result<Option<Zones<P>>>
         ensures { IfOk result (λ o. option_map (λ z. zone_hall (P.Plan.hall z.below) z.zones.records.items) o ≡ piled_of (P.Plan.hall plan) (words_at k (content_of self.now.page.now))) }
     {
-        let Ok(mut pile) = Zones::over(self.rt.alloc(), plan) else {
-            return Err(AllocError.into());
-        };
+        let mut pile = Zones::over(self.rt.alloc(), plan).map_err(|_| AllocError)?;
         let words = self.page.words_of(k);
         match pile.read(words) {
             Ok(()) => {
@@ -129,6 +128,7 @@ pub fn check(rt: &HostRuntime, text: &[u8], map: bool) -> anyhow::Result<bool>
     ensures { IfOk result (λ b. b ≡ accepts text.now) }
 {
     let mut page = Page::with_room(rt.alloc(), text.len())?;
+    // two lines, of which a script reads the first: no one text of a fault
     if let Err(fault) = page.read(text) {
         let line = fault.line;
         let reason = fault.reason;

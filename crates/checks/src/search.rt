@@ -29,7 +29,7 @@ fn first<F: Fn(usize) -> Result<(), SealFault>>(n: usize, check: F) -> Result<()
     requires { F.IsAlwaysCallable check }
     ensures { (finds : ℕ → Maybe Found) → FindsBy n (F.post check) finds → result_err result ≡ first_of n finds }
 {
-    // `try_for_each` is no shorter, and no lemma says what it answers over a range
+    // no `try_for_each`: no lemma says what it answers over a range
     for k in 0..n {
         check(k)?;
     }
@@ -44,6 +44,7 @@ fn types_lie(survey: &Survey, child: Schema, parent: Schema) -> bool
 }
 
 /// A policy over what was seen of a plan.
+// The public functions of rights and checks take the two apart, as sealing has them.
 #[derive(Clone, Copy)]
 struct Case<'a> {
     survey: &'a Survey,
@@ -101,6 +102,7 @@ impl<'a> Case<'a> {
     fn first_overlap(self) -> Result<(), SealFault>
         ensures { result_err result ≡ first_of (length (says self.entry.policy.now).schemas) (of_case all_overlaps self.entry) }
     {
+        // the order of the three searches is that of the loops, which the first overlap leaves by their label
         let mut found = Ok(());
         'search: for s in 0..self.policy.schema_count() {
             for l in 0..self.survey.count() {

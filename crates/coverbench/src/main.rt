@@ -10,6 +10,7 @@ use point::Point;
 use std::alloc::{AllocError, Global};
 
 /// The words of the floor and its places.
+// Another hall than that of guardbench: a place has other corners, of another formula.
 fn hall_words(heap: Global) -> Result<Vec<u32>, AllocError> {
     let mut words = Vec::new(heap);
     words.push(0x1002_0100u32)?;
@@ -44,9 +45,7 @@ fn run(rt: &HostRuntime) -> anyhow::Result<()> {
     let heap = rt.alloc();
     let words = hall_words(heap)?;
     let (plan, answer) = Listed::<Outline>::from_words(heap, &words)?;
-    if answer.is_err() {
-        return Err(anyhow!("the hall is refused"));
-    }
+    answer.map_err(|_| anyhow!("the hall is refused"))?;
     let all = covered(&plan);
     println!(rt; "covered {all}")?;
     Ok(())

@@ -25,6 +25,7 @@ impl<'a, P: Plan> Subject<'a, P> {
     pub fn is_enabled(&self, role: usize) -> bool
         ensures { result ≡ enabled_by (over P.Plan.hall self.now) (standing_of self.now.badge) role }
     {
+        // where the badge is comes first, and without it nothing is asked
         let Some(place) = self.place_of(role) else {
             return false;
         };

@@ -11,6 +11,7 @@ pub mod running;
 pub mod sealed;
 
 /// A plan with the policy sealed over it, and what is kept of each badge.
+// What its plan means is no fact of it in the clauses that speak of a guard before and after a call: those name the plan.
 #[derive(Drop)]
 pub struct Guard<P: Plan> {
     site: Site<P>,

@@ -7,6 +7,7 @@ mod hall;
 mod rounds;
 
 use anyhow::{Context, anyhow};
+use dice::Dice;
 use drawn::outline::Outline;
 use guard::guard::Guard;
 use hall::{hall_words, policy_words};
@@ -19,14 +20,12 @@ fn sealed(rt: &HostRuntime, places: u32, side: u32) -> anyhow::Result<Guard<List
     let heap = rt.alloc();
     let words = hall_words(heap, places, side)?;
     let (plan, answer) = Listed::<Outline>::from_words(heap, &words)?;
-    if answer.is_err() {
-        return Err(anyhow!("the hall is refused"));
-    }
+    answer.map_err(|_| anyhow!("the hall is refused"))?;
     let mut guard = Guard::new(plan, heap)?;
     let policy = policy_words(heap, places)?;
-    if guard.seal(&policy).is_err() {
-        return Err(anyhow!("the policy is not sealed"));
-    }
+    guard
+        .seal(&policy)
+        .map_err(|_| anyhow!("the policy is not sealed"))?;
     Ok(guard)
 }
 
@@ -38,26 +37,28 @@ fn seal(rt: &HostRuntime, places: u32, side: u32) -> anyhow::Result<()> {
     Ok(())
 }
 
-/// Makes so many rounds of one kind, in the hall of 64 places on 256 points a side.
-fn play(rt: &HostRuntime, kind: &str, count: u32) -> anyhow::Result<()> {
+/// Makes so many rounds, in the hall of 64 places on 256 points a side.
+fn play<F: FnMut(&mut Guard<Listed<Outline>>, &mut Dice) -> u64>(
+    rt: &HostRuntime,
+    name: &str,
+    count: u32,
+    round: F,
+) -> anyhow::Result<()>
+    requires { F.IsAlwaysCallable round }
+{
     let mut guard = sealed(rt, 64, 256)?;
     let signed = sign_in(&mut guard);
-    let sum = match kind {
-        "report" => sum_of(&mut guard, count, report),
-        "ask" => sum_of(&mut guard, count, ask),
-        "roles" => sum_of(&mut guard, count, roles),
-        _ => return Err(anyhow!("no such kind of round")),
-    };
-    println!(rt; "{kind} {count} active {signed} sum {sum}")?;
+    let sum = sum_of(&mut guard, count, round);
+    println!(rt; "{name} {count} active {signed} sum {sum}")?;
     Ok(())
 }
 
 /// Everything, with so many rounds of each kind.
 fn all(rt: &HostRuntime, count: u32) -> anyhow::Result<()> {
     seal(rt, 64, 256)?;
-    play(rt, "report", count)?;
-    play(rt, "ask", count)?;
-    play(rt, "roles", count)
+    play(rt, "report", count, report)?;
+    play(rt, "ask", count, ask)?;
+    play(rt, "roles", count, roles)
 }
 
 /// The number that an argument says.
@@ -69,9 +70,9 @@ fn number(argument: Option<String>) -> anyhow::Result<u32> {
 fn run(rt: &HostRuntime) -> anyhow::Result<()> {
     let mut args = env::args(rt)?;
     let _program = args.next();
-    let Some(kind) = args.next() else {
-        return Err(anyhow!("seal PLACES SIDE, report N, ask N, roles N or all N"));
-    };
+    let kind = args
+        .next()
+        .context("seal PLACES SIDE, report N, ask N, roles N or all N")?;
     let count = number(args.next())?;
     match kind.as_str() {
         "seal" => {
@@ -79,7 +80,10 @@ fn run(rt: &HostRuntime) -> anyhow::Result<()> {
             seal(rt, count, side)
         }
         "all" => all(rt, count),
-        other => play(rt, other, count),
+        "report" => play(rt, "report", count, report),
+        "ask" => play(rt, "ask", count, ask),
+        "roles" => play(rt, "roles", count, roles),
+        _ => Err(anyhow!("no such kind of round")),
     }
 }
 

@@ -25,7 +25,7 @@ fn open<P: Plan>(guard: &mut Guard<P>, badge: u16, session: u16) -> u64 {
 }
 
 /// Opens a session of each badge; how many roles are active then.
-pub fn sign_in<P: Plan>(guard: &mut Guard<P>) -> u64 {
+pub(crate) fn sign_in<P: Plan>(guard: &mut Guard<P>) -> u64 {
     (0..128u16).fold(0u64, |active, badge| {
         active.wrapping_add(open(guard, badge, badge % 4))
     })
@@ -40,7 +40,7 @@ fn enabled_at<P: Plan>(guard: &mut Guard<P>, at: Point) -> u64 {
 }
 
 /// A sum of what was sealed, seen at eight points.
-pub fn enabled_all<P: Plan>(guard: &mut Guard<P>, side: u32) -> u64 {
+pub(crate) fn enabled_all<P: Plan>(guard: &mut Guard<P>, side: u32) -> u64 {
     let quarter = side / 4;
     let active = open(guard, 0, 0);
     (0..8u32).fold(active, |sum, k| {
@@ -49,7 +49,16 @@ pub fn enabled_all<P: Plan>(guard: &mut Guard<P>, side: u32) -> u64 {
             .wrapping_mul(1 + 2 * (k / 2 % 2))
             .wrapping_add((k / 4).wrapping_mul(quarter / 3))
             % 256;
-        mixed(sum, enabled_at(guard, Point { x: x as u16, y: y as u16 }))
+        mixed(
+            sum,
+            enabled_at(
+                guard,
+                Point {
+                    x: x as u16,
+                    y: y as u16,
+                },
+            ),
+        )
     })
 }
 
@@ -71,7 +80,7 @@ fn hear<P: Plan>(guard: &mut Guard<P>, dice: &mut Dice) -> u16 {
 }
 
 /// One report, now and then of a badge that there is not.
-pub fn report<P: Plan>(guard: &mut Guard<P>, dice: &mut Dice) -> u64 {
+pub(crate) fn report<P: Plan>(guard: &mut Guard<P>, dice: &mut Dice) -> u64 {
     let badge = dice.byte() % 130;
     let x = dice.byte();
     let y = dice.byte();
@@ -79,7 +88,7 @@ pub fn report<P: Plan>(guard: &mut Guard<P>, dice: &mut Dice) -> u64 {
 }
 
 /// A badge is heard and asks for a right.
-pub fn ask<P: Plan>(guard: &mut Guard<P>, dice: &mut Dice) -> u64 {
+pub(crate) fn ask<P: Plan>(guard: &mut Guard<P>, dice: &mut Dice) -> u64 {
     let badge = hear(guard, dice);
     let operation = dice.byte() % 16;
     let object = dice.byte() % 32;
@@ -90,13 +99,14 @@ pub fn ask<P: Plan>(guard: &mut Guard<P>, dice: &mut Dice) -> u64 {
 }
 
 /// A badge is heard and its roles are asked for.
-pub fn roles<P: Plan>(guard: &mut Guard<P>, dice: &mut Dice) -> u64 {
+pub(crate) fn roles<P: Plan>(guard: &mut Guard<P>, dice: &mut Dice) -> u64 {
     let badge = hear(guard, dice);
     counted(guard.roles(badge, badge % 4), |roles| roles.word())
 }
 
 /// A sum of so many rounds of a kind.
-pub fn sum_of<P: Plan, F: FnMut(&mut Guard<P>, &mut Dice) -> u64>(
+// The guard and the dice are two parameters, since a round is handed over as a function of both.
+pub(crate) fn sum_of<P: Plan, F: FnMut(&mut Guard<P>, &mut Dice) -> u64>(
     guard: &mut Guard<P>,
     count: u32,
     mut round: F,

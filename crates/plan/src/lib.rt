@@ -40,7 +40,7 @@ pub trait Plan {
         ensures { (k : ℕ) → member result.bits k ≡ covers_at (hall self.now) k at.x at.y }
     {
         let mut found = Set64::none();
-        // numbers are asked here, and no list is gone over; a filter and a fold are no shorter
+        // numbers in use are asked, and no list is gone over; `gather` would ask all 64
         for k in 0..self.count() {
             if self.covers(k, at) {
                 found = found.with(k);

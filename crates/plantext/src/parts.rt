@@ -16,6 +16,7 @@ pub(super) fn cut(bytes: &[u8], stop: u8) -> (&[u8], &[u8])
 }
 
 /// The lines of a text.
+// The bench has lines of its own: those of a text have comments and numbers, and the two share no crate.
 #[derive(Clone, Copy)]
 pub(super) struct Lines<'a>(pub(super) &'a [u8]);
 

@@ -11,6 +11,7 @@ use plan::Plan;
 use point::Point;
 
 /// How many points of row `y` a place covers.
+// A plan and the number of a place stay two parameters, as in the questions that a plan answers.
 fn points_of_row<P: Plan>(plan: &P, place: usize, y: u16) -> u32
     ensures value { result ≡ points_of_row_spec (P.hall plan.now) place y }
     ensures most { result ≤ 256 }

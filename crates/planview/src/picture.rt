@@ -8,6 +8,7 @@ use plan::Plan;
 use point::Point;
 
 /// One row: `#` for each point that is covered, `.` for each other one.
+// Bytes and no Display: they are written as they are, 256 at a time.
 #[derive(Drop)]
 pub struct Row {
     marks: ArrayVec<u8, 256>,
@@ -24,6 +25,7 @@ impl Row {
     pub fn of_place<P: Plan>(plan: &P, place: usize, y: u16) -> Row
         ensures { result.marks.items ≡ picture_row (P.hall plan.now) place y }
     {
+        // pushed one by one: `from_iter` answers a Result, and what fits here always fits
         let mut marks = ArrayVec::new();
         for x in 0..plan.width() {
             marks.push(mark(plan, place, Point { x, y }));

@@ -54,7 +54,7 @@ fn seal_all<P: Plan>(rt: &HostRuntime, site: &mut Site<P>) -> anyhow::Result<()>
 }
 
 fn run(rt: &HostRuntime) -> anyhow::Result<()> {
-    // these words stand in benchrun too, but a program that only seals is to build without the crates below that one
+    // these words, and those that fit, stand in benchrun too, but a program that only seals is to build without the crates below that one
     let hall = [
         0x1000_1008u32,
         0x2000_0040,

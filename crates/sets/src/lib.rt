@@ -79,6 +79,7 @@ impl Set64 {
     }
 
     /// The set as a word.
+    // By its name, and no From: a number says nothing of the set that it was.
     pub fn word(self) -> u64
         ensures { result ≡ self.bits }
     {

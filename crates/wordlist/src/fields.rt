@@ -17,6 +17,7 @@ pub fn bits(word: u32, low: u32, count: u32) -> u32
 }
 
 /// The kind of a word: its four highest bits.
+// A number: `Kind` has no name for some.
 pub fn kind(word: u32) -> u32
     ensures { result ≡ kind_of word }
 {

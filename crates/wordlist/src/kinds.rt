@@ -26,6 +26,7 @@ pub enum Kind {
 
 impl Kind {
     /// The kind of a word, if its number names one.
+    // No TryFrom: a word without a kind is no fault yet.
     pub fn of(word: u32) -> Option<Kind>
         ensures { result ≡ kind_named (kind_of word) }
     {

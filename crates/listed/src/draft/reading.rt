@@ -43,6 +43,7 @@ impl<S: Shape + Drop> Draft<S> {
     }
 
     /// Whether a word breaks no rule of turn, room and fields.
+    // Not one function for all lists: it would be handed the impl that `take` is part of, which is proved after it.
     fn passes(&self, word: u32) -> bool
         ensures { result ≡ passing (list_rules S.Shape.make) (progress_of S.Shape.model self.now) word }
     {

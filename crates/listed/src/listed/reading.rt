@@ -34,6 +34,7 @@ impl<S: Shape + Drop> Listed<S> {
         keep(&mut self.draft, (), &mut self.sheet, words)
     }
 
+    // Both, and no Result of the plan: refused words have a plan too.
     /// A new plan of what the words say, and the answer to them. The plan of refused words is a floor of one point with no place.
     pub fn from_words(
         heap: Global,

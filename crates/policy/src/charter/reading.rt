@@ -97,6 +97,7 @@ impl Charter {
     }
 
     /// Whether a word breaks no rule of turn, room and fields.
+    // Not one function for all lists: it would be handed the impl that `take` is part of, which is proved after it.
     fn passes(&self, word: u32) -> bool
         ensures { result ≡ passing policy_rules (content_of self.now) word }
     {

@@ -39,6 +39,7 @@ impl Policy {
         self.kept.roles.shelf().len()
     }
 
+    // No options: what a policy means has zeros for a number that is not in use.
     /// Schema `k`.
     pub fn schema(&self, k: usize) -> Schema
         ensures { result ≡ schema_at (says self.now) k }

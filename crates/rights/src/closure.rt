@@ -30,9 +30,7 @@ pub fn closure(policy: &Policy) -> [Set64; 32]
     ensures { (s a : ℕ) → s < 32 → cell result s a ≡ reaches (says policy.now) s a }
 {
     let mut rows = selves();
-    // Counted by hand: a policy answers its parent records by number, and has no slice of them.
-    for k in 0..policy.parent_count() {
-        let step = policy.parent(k);
+    for step in policy.parents() {
         rows[step.child as usize] = rows[step.child as usize].or(rows[step.parent as usize]);
     }
     rows

@@ -61,6 +61,13 @@ impl Policy {
         self.kept.roles.shelf().get(k).unwrap_or_default()
     }
 
+    /// The parent records, in the order of (child, parent).
+    pub fn parents(&self) -> &[Parent]
+        ensures { result.now ≡ (says self.now).parents }
+    {
+        self.kept.parents.shelf().records()
+    }
+
     /// The schema permissions, in the order of (schema, operation, object).
     pub fn schema_permissions(&self) -> &[SchemaPermission]
         ensures { result.now ≡ (says self.now).schema_permissions }

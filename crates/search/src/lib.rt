@@ -1,7 +1,7 @@
 //! One text for searches: the lowest number that passes a test, whether there is one, and which do.
 #![tactic(auto)]
 
-ghost use Rattle.std.specs.Prelude.{◌≡◌, ℕ, ◌^◌, ◌<◌, Bool, ◌&&◌, ◌||◌, is_some, ◌==◌, nat_lt};
+ghost use Rattle.std.specs.Prelude.{◌≡◌, ℕ, Bool, ◌&&◌, is_some, nat_lt};
 ghost use Rattle.sets.specs.Bounds.{some as some_of, lowest as lowest_of};
 ghost use Rattle.sets.specs.Member.{member};
 ghost use Rattle.search.specs.Gathered.{gathered};
@@ -26,24 +26,13 @@ pub fn any<F: Fn(usize) -> bool>(n: usize, passes: F) -> bool
     lowest(n, passes).is_some()
 }
 
-/// The set with `k` put in if it passes.
-fn noted(found: Set64, k: usize, passes: bool) -> Set64
-    ensures members { (j : ℕ) → member result.bits j ≡ (member found.bits j || (passes && (nat_lt k 64 && j == k))) }
-    ensures fits { result.bits < 2 ^ 64 }
-{
-    if passes { found.with(k) } else { found }
-}
-
 /// The numbers below 64 that pass.
 pub fn gather<F: Fn(usize) -> bool>(passes: F) -> Set64
     requires { F.IsAlwaysCallable passes }
     ensures members { (p : ℕ → Bool) → AnswersBy 64 (F.post passes) p → (k : ℕ) → member result.bits k ≡ (nat_lt k 64 && p k) }
     ensures value { (p : ℕ → Bool) → AnswersBy 64 (F.post passes) p → result ≡ gathered p }
 {
-    let mut found = Set64::none();
-    // the numbers are asked, and index nothing; a fold over the range is no shorter
-    for k in 0..64 {
-        found = noted(found, k, passes(k));
-    }
-    found
+    (0..64)
+        .filter(|k| passes(*k))
+        .fold(Set64::none(), |found, k| found.with(k))
 }

@@ -28,6 +28,7 @@ fn put<P: Plan>(guard: &mut Guard<P>, line: &[u8]) -> Option<Answer>
 }
 
 /// What is printed for an answer, or for a bad line where there is none.
+// A function and no Display: an option of a Result prints in std's way.
 fn text_of(answer: Option<Answer>, heap: Global) -> Result<String, AllocError>
     ensures { IfOk result (λ s. string_bytes s ≡ text_of answer) }
 {

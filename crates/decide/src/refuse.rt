@@ -13,6 +13,7 @@ use calls::refusal::Refusal;
 use plan::Plan;
 use point::Point;
 
+// Each list of reasons names the ground and how the badge stands, as the reasons do.
 impl<'a, P: Plan> Subject<'a, P> {
     /// Refused where there is no such badge.
     fn known_badge(&self) -> Result<(), Refusal>

@@ -9,6 +9,7 @@ use wordlist::fields::kind;
 use wordlist::kinds::Kind;
 
 /// What the fields of a word of this kind have to be; a word of no kind is told as one of the last.
+// A function and no Display of Kind: it tells of the fields, and not of the kind.
 fn wanted(kind: Option<Kind>) -> &'static str {
     match kind {
         Some(Kind::Floor) => "a floor is 1 to 256 points wide and high",

@@ -49,6 +49,7 @@ impl Kind {
     }
 
     /// The number that names the kind.
+    // By its name, and no From: a number says nothing of what it numbers.
     pub fn number(self) -> u32
         ensures { result ≡ number_of self }
     {

@@ -1,17 +1,15 @@
 -- Lists whose keys rise.
-use Rattle.std.proofs.Common.{◌≡◌, ℕ, zero, suc, ◌+◌, ◌-◌, ◌<◌, ◌≤◌, Bool, true, false, cond, nat_lt, ◌&&◌, ◌||◌, List, [], ◌∷◌, ◌++◌, length, get_or, is_some, IfSome, Some, None, Ok, Err, Option, Result, sym, refl, ap, subst, ◌∙◌, ⊎_elim, add-one, arith}
+use Rattle.std.proofs.Common.{◌≡◌, ℕ, zero, suc, ◌+◌, ◌-◌, ◌<◌, ◌≤◌, Bool, true, false, cond, nat_lt, ◌&&◌, ◌||◌, List, [], ◌∷◌, ◌++◌, length, get_or, is_some, IfSome, Some, None, Option, sym, refl, ap, ◌∙◌, ⊎_elim, add-one, arith}
 use Rattle.std.specs.declared.cmp.Ordering.{Ordering}
 use Rattle.std.specs.declared.cmp.Ordering.TheVariants.{Less, Equal, Greater}
 use Rattle.std.specs.Ordering.{is_lt, is_some_and, ordering_reverse, partial_lt}
-use Rattle.std.specs.Result.{result_ok}
 use Rattle.std.specs.Cmp.{IsTotalOrder}
 use Rattle.std.specs.List.{HoldsAt, IsAllAdjacentAnswer}
-use Rattle.std.specs.List.Sorted.{IsBinarySearchResult, IsSearchInRange}
-use Rattle.std.proofs.lemmas.Bool.{and_parts, and_from, and_left, and_right, cond-true, cond-false, cases_lt, not_from_true, not_from_false, both_ways}
+use Rattle.std.proofs.lemmas.List.{get_or_default}
+use Rattle.std.proofs.lemmas.Bool.{and_parts, and_from, and_left, and_right, or_left, or_right, cond-true, cond-false, cases_lt, not_from_true, not_from_false, both_ways}
 use Rattle.std.proofs.lemmas.Cmp.{tied_itself, tied_back}
-use Rattle.std.proofs.lemmas.List.Sorted.{searchable_from_sorted}
 use Rattle.std.proofs.lemmas.Map.Lookups.{CmpEqualImpliesEq}
-use Rattle.keyed.specs.Orders.{below, rising, follows, alike, find_from, find_of, has, placed}
+use Rattle.keyed.specs.Orders.{below, Irreflexive, Transitive, Total, rising, follows, alike, find_from, find_of, has, placed}
 
 module _ {R K : Type 0} (less : K → K → Bool) (key : R → K) where
   -- the last record decides what may follow
@@ -91,74 +89,104 @@ module _ {R K : Type 0} (less : K → K → Bool) (key : R → K) where
   found_has [] k i = refl
   found_has (x ∷ xs) k i = found_or (alike less (key x) k) i (find_from less key k (i + 1) xs) (has less key k xs) (found_has xs k (i + 1))
 
+  -- a record at some place has the key
+  pub has_at : (irreflexive : Irreflexive less) (xs : List R) (k : K) (i : ℕ) → i < length xs → HoldsAt (λ x. key x ≡ k) xs i → has less key k xs ≡ true
+  has_at irr [] k i lt at = absurd (omega arith)
+  has_at irr (x ∷ xs) k zero lt at =
+      or_left _ _ (ap (λ a. alike less a k) (at x) ∙ and_from _ _ (not_from_false _ (irr k)) (not_from_false _ (irr k)))
+  has_at irr (x ∷ xs) k (suc i) lt at = or_right (alike less (key x) k) _ (has_at irr xs k i (omega arith) (λ d. at d))
+
+  -- what a search of the records ys tells of the records xs, which they are
+  pub has_value : (xs ys : List R) (k : K) (o : Option ℕ) (r : Bool) → ys ≡ xs → r ≡ is_some o → (rising less key ys ≡ true → o ≡ find_of less key k ys) → rising less key xs ≡ true → r ≡ has less key k xs
+  has_value xs ys k o r same is value up =
+      is ∙ ap is_some (value (ap (rising less key) same ∙ up)) ∙ found_has ys k 0 ∙ ap (has less key k) same
+
+  pub has_sure : (irreflexive : Irreflexive less) (xs ys : List R) (k : K) (o : Option ℕ) (r : Bool) → ys ≡ xs → r ≡ is_some o → IfSome o (λ i. i < length ys) → IfSome o (λ i. HoldsAt (λ x. key x ≡ k) ys i) → r ≡ true → has less key k xs ≡ true
+  has_sure irr xs ys k None r same is lt at holds = absurd (let z : ◌≡◌ {A = ℕ} 0 1 = cc in omega arith)
+  has_sure irr xs ys k (Some i) r same is lt at holds = ap (has less key k) (sym same) ∙ has_at irr ys k i lt at
+
+  -- the keys before n are below k; the keys from n on are above it
+  abbrev pub Before : List R → K → ℕ → Type 0
+  Before xs k n = (i : ℕ) (d : R) → i < n → less (key (get_or xs i d)) k ≡ true
+
+  abbrev pub After : List R → K → ℕ → Type 0
+  After xs k n = (i : ℕ) (d : R) → n ≤ i → i < length xs → less k (key (get_or xs i d)) ≡ true
+
+  module _ (trans : Transitive less) where
+    above_head : (x : R) (xs : List R) → rising less key (x ∷ xs) ≡ true → (j : ℕ) (d : R) → j < length xs → less (key x) (key (get_or xs j d)) ≡ true
+    above_head x [] up j d lt = absurd (omega arith)
+    above_head x (y ∷ ys) up zero d lt = (and_parts (less (key x) (key y)) _ up).0
+    above_head x (y ∷ ys) up (suc j) d lt =
+        let p = and_parts (less (key x) (key y)) (rising less key (y ∷ ys)) up in
+        trans _ _ _ p.0 (above_head y ys p.1 j d (omega arith))
+
+    tail_rises : (x : R) (xs : List R) → rising less key (x ∷ xs) ≡ true → rising less key xs ≡ true
+    tail_rises x [] up = refl
+    tail_rises x (y ∷ ys) up = (and_parts (less (key x) (key y)) (rising less key (y ∷ ys)) up).1
+
+    -- of two records the earlier one has the lower key
+    pub far : (xs : List R) → rising less key xs ≡ true → (i j : ℕ) (d : R) → i < j → j < length xs → less (key (get_or xs i d)) (key (get_or xs j d)) ≡ true
+    far [] up i j d a b = absurd (omega arith)
+    far (x ∷ xs) up i zero d a b = absurd (omega arith)
+    far (x ∷ xs) up zero (suc j) d a b = above_head x xs up j d (omega arith)
+    far (x ∷ xs) up (suc i) (suc j) d a b = far xs (tail_rises x xs up) i j d (omega arith) (omega arith)
+
+    pub low_more : (xs : List R) (k : K) (m : ℕ) (x : R) → rising less key xs ≡ true → m < length xs → x ≡ get_or xs m x → less (key x) k ≡ true → Before xs k (m + 1)
+    low_more xs k m x up lt is e = λ i d h.
+        let here : get_or xs m d ≡ x = get_or_default xs m d x lt ∙ sym is in
+        ⊎_elim
+        (λ below. trans _ _ _ (far xs up i m d below lt) (ap (λ y. less (key y) k) here ∙ e))
+        (λ from. let same : i ≡ m = omega arith in ap (λ n. less (key (get_or xs n d)) k) same ∙ ap (λ y. less (key y) k) here ∙ e)
+        (cases_lt i m)
+
+    pub high_more : (xs : List R) (k : K) (m : ℕ) (x : R) → rising less key xs ≡ true → m < length xs → x ≡ get_or xs m x → less k (key x) ≡ true → After xs k m
+    high_more xs k m x up lt is e = λ i d h in_range.
+        let here : get_or xs m d ≡ x = get_or_default xs m d x lt ∙ sym is in
+        ⊎_elim
+        (λ above. trans _ _ _ (ap (λ y. less k (key y)) here ∙ e) (far xs up m i d above in_range))
+        (λ to. let same : i ≡ m = omega arith in ap (λ n. less k (key (get_or xs n d))) same ∙ ap (λ y. less k (key y)) here ∙ e)
+        (cases_lt m i)
+
+    -- a linear search finds the record that has the key
+    pub found : (xs : List R) (k : K) (m : ℕ) (x : R) → rising less key xs ≡ true → m < length xs → x ≡ get_or xs m x → key x ≡ k → alike less (key x) k ≡ true → Some m ≡ find_of less key k xs
+    found xs k m x up lt is same e =
+        let z : 0 + m ≡ m = omega arith in
+        sym (found_at xs k 0 m x lt
+        (λ j h. below_apart _ _ (ap (λ a. less (key (get_or xs j x)) a) (sym same ∙ ap key is) ∙ far xs up j m x h lt))
+        (ap (λ y. alike less (key y) k) (sym is) ∙ e) ∙ ap Some z)
+
+    -- and none where each key is below k or above it
+    pub missing : (xs : List R) (k : K) (low high : ℕ) → high ≤ low → Before xs k low → After xs k high → None ≡ find_of less key k xs
+    missing xs k low high met lows highs =
+        sym (none_at xs k 0 (λ j d h. ⊎_elim (λ below. below_apart _ _ (lows j d below)) (λ from. above_apart _ _ (highs j d (omega arith) h)) (cases_lt j low)))
+
 -- an order by `cmp`
-module _ {R K : Type 0} (cmp : K → K → Ordering) (total : IsTotalOrder cmp) (key : R → K) where
+module _ {K : Type 0} (cmp : K → K → Ordering) (total : IsTotalOrder cmp) where
   less_is : (o : Ordering) → is_lt o ≡ true → o ≡ Less
   less_is Less e = refl
   less_is Equal e = absurd (both_ways false refl e)
   less_is Greater e = absurd (both_ways false refl e)
 
-  below_chain : (a b c : K) → below cmp a b ≡ true → below cmp b c ≡ true → below cmp a c ≡ true
-  below_chain a b c p q = ap is_lt (total.trans a b c (less_is _ p) (less_is _ q))
+  pub below_irreflexive : Irreflexive (below cmp)
+  below_irreflexive a = ap is_lt (tied_itself total a)
 
-  turned : (a b : K) → cmp a b ≡ Greater → below cmp b a ≡ true
+  pub below_transitive : Transitive (below cmp)
+  below_transitive a b c p q = ap is_lt (total.trans a b c (less_is _ p) (less_is _ q))
+
+  pub turned : (a b : K) → cmp a b ≡ Greater → below cmp b a ≡ true
   turned a b e = ap is_lt (total.antisymm b a ∙ ap ordering_reverse e)
 
   -- keys that tie are alike
   pub tie_alike : (a b : K) → cmp a b ≡ Equal → alike (below cmp) a b ≡ true
   tie_alike a b e = and_from _ _ (not_from_false _ (ap is_lt e)) (not_from_false _ (ap is_lt (tied_back total a b e)))
 
-  above_head : (x : R) (xs : List R) → rising (below cmp) key (x ∷ xs) ≡ true → (j : ℕ) (d : R) → j < length xs → below cmp (key x) (key (get_or xs j d)) ≡ true
-  above_head x [] up j d lt = absurd (omega arith)
-  above_head x (y ∷ ys) up zero d lt = (and_parts (below cmp (key x) (key y)) _ up).0
-  above_head x (y ∷ ys) up (suc j) d lt =
-      let p = and_parts (below cmp (key x) (key y)) (rising (below cmp) key (y ∷ ys)) up in
-      below_chain _ _ _ p.0 (above_head y ys p.1 j d (omega arith))
-
-  tail_rises : (x : R) (xs : List R) → rising (below cmp) key (x ∷ xs) ≡ true → rising (below cmp) key xs ≡ true
-  tail_rises x [] up = refl
-  tail_rises x (y ∷ ys) up = (and_parts (below cmp (key x) (key y)) (rising (below cmp) key (y ∷ ys)) up).1
-
-  -- of two records the earlier one has the lower key
-  pub far : (xs : List R) → rising (below cmp) key xs ≡ true → (i j : ℕ) (d : R) → i < j → j < length xs → below cmp (key (get_or xs i d)) (key (get_or xs j d)) ≡ true
-  far [] up i j d a b = absurd (omega arith)
-  far (x ∷ xs) up i zero d a b = absurd (omega arith)
-  far (x ∷ xs) up zero (suc j) d a b = above_head x xs up j d (omega arith)
-  far (x ∷ xs) up (suc i) (suc j) d a b = far xs (tail_rises x xs up) i j d (omega arith) (omega arith)
-
-  not_below : (o : Ordering) → is_lt o ≡ true → is_lt (ordering_reverse o) ≡ false
-  not_below Less e = refl
-  not_below Equal e = refl
-  not_below Greater e = absurd (both_ways false refl e)
-
-  next_not_below : (xs : List R) → rising (below cmp) key xs ≡ true → (k : ℕ) (d : R) → 0 ≤ k → k + 1 < length xs → below cmp (key (get_or xs (k + 1) d)) (key (get_or xs k d)) ≡ false
-  next_not_below xs up k d z l = ap is_lt (total.antisymm _ _) ∙ not_below _ (far xs up k (k + 1) d (omega arith) l)
-
-  found : (xs : List R) (k : K) (m : ℕ) (d : R) → rising (below cmp) key xs ≡ true → m < length xs → key (get_or xs m d) ≡ k → find_of (below cmp) key k xs ≡ Some m
-  found xs k m d up lt same =
-      let z : 0 + m ≡ m = omega arith in
-      found_at (below cmp) key xs k 0 m d lt
-      (λ j h. below_apart (below cmp) key _ _ (ap (λ a. below cmp (key (get_or xs j d)) a) (sym same) ∙ far xs up j m d h lt))
-      (tie_alike _ _ (ap (λ a. cmp (key (get_or xs m d)) a) (sym same) ∙ tied_itself total _)) ∙ ap Some z
-
-  missing : (xs : List R) (k : K) (n : ℕ) → ((j : ℕ) (d : R) → 0 ≤ j → j < n → cmp (key (get_or xs j d)) k ≡ Less) → ((j : ℕ) (d : R) → n ≤ j → j < length xs → cmp (key (get_or xs j d)) k ≡ Greater) → find_of (below cmp) key k xs ≡ None
-  missing xs k n lows highs =
-      none_at (below cmp) key xs k 0 (λ j d h. ⊎_elim
-      (λ under. below_apart (below cmp) key _ _ (ap is_lt (lows j d (omega arith) under)))
-      (λ from. above_apart (below cmp) key _ _ (turned _ _ (highs j d from h))) (cases_lt j n))
-
-  module _ (exact : CmpEqualImpliesEq cmp) where
-    -- what a search by halving answers: a place where a record has the key, or where one would go
-    pub halving_same : (xs : List R) (k : K) (r : Result ℕ ℕ) (o : Option ℕ) → IsBinarySearchResult (λ y. cmp (key y) k) xs r → o ≡ result_ok r → IfSome o (HoldsAt (λ x. key x ≡ k) xs)
-    halving_same xs k (Ok i) o h is = subst (λ p. IfSome p (HoldsAt (λ x. key x ≡ k) xs)) (sym is) (λ d. exact _ _ (h d))
-    halving_same xs k (Err i) o h is = subst (λ p. IfSome p (HoldsAt (λ x. key x ≡ k) xs)) (sym is) tt
-
-    pub halving_value : (xs : List R) (k : K) (r : Result ℕ ℕ) (o : Option ℕ) → IsSearchInRange r (length xs) → IsBinarySearchResult (λ y. cmp (key y) k) xs r → o ≡ result_ok r → rising (below cmp) key xs ≡ true → o ≡ find_of (below cmp) key k xs
-    halving_value [] k (Ok i) o l h is up = absurd (omega arith)
-    halving_value (x ∷ xs) k (Ok i) o l h is up = is ∙ sym (found (x ∷ xs) k i x up l (exact _ _ (h x)))
-    halving_value xs k (Err i) o l h is up =
-        let split = h (searchable_from_sorted total key xs k (next_not_below xs up)) in
-        is ∙ sym (missing xs k i split.0 split.1)
+  pub below_total : CmpEqualImpliesEq cmp → Total (below cmp)
+  below_total exact a b p q = by_answer (cmp a b) refl
+    where
+      by_answer : (o : Ordering) → cmp a b ≡ o → a ≡ b
+      by_answer Less e = absurd (both_ways (below cmp a b) p (ap is_lt e))
+      by_answer Equal e = exact a b e
+      by_answer Greater e = absurd (both_ways (below cmp b a) q (turned a b e))
 
 -- `<` of keys whose `partial_cmp` answers as `cmp` does
 pub less_below : {K : Type 0} (cmp : K → K → Ordering) (partial : K → K → Option Ordering) → ((a b : K) → partial a b ≡ Some (cmp a b)) → (a b : K) → partial_lt partial a b ≡ below cmp a b

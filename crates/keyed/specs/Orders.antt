@@ -1,11 +1,23 @@
 -- Rising keys, and the search by key, over any record type and any order of its keys.
-use Rattle.std.specs.Prelude.{ℕ, ◌+◌, Bool, true, false, cond, not, ◌&&◌, ◌||◌, List, [], ◌∷◌, ◌++◌, length, Some, None, Option, nat_lt}
+use Rattle.std.specs.Prelude.{◌≡◌, ℕ, ◌+◌, Bool, true, false, cond, not, ◌&&◌, ◌||◌, List, [], ◌∷◌, ◌++◌, length, Some, None, Option, nat_lt}
 use Rattle.std.specs.declared.cmp.Ordering.{Ordering}
 use Rattle.std.specs.Ordering.{is_lt}
 
 -- whether one key is below another
 abbrev pub below : {K : Type 0} → (K → K → Ordering) → K → K → Bool
 below cmp a b = is_lt (cmp a b)
+
+-- no key is below itself
+abbrev pub Irreflexive : {K : Type 0} → (K → K → Bool) → Type 0
+Irreflexive {K} less = (a : K) → less a a ≡ false
+
+-- what is below a lower key is below the higher one
+abbrev pub Transitive : {K : Type 0} → (K → K → Bool) → Type 0
+Transitive {K} less = (a b c : K) → less a b ≡ true → less b c ≡ true → less a c ≡ true
+
+-- of two keys one is below the other, or they are the same
+abbrev pub Total : {K : Type 0} → (K → K → Bool) → Type 0
+Total {K} less = (a b : K) → less a b ≡ false → less b a ≡ false → a ≡ b
 
 -- each key is above the one before
 abbrev pub rising : {R K : Type 0} → (K → K → Bool) → (R → K) → List R → Bool

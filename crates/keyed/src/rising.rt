@@ -5,7 +5,6 @@ ghost use Rattle.keyed.specs.Orders.{below, follows, has as has_key, placed_risi
 
 use super::keys::Keyed;
 use super::shelf::Shelf;
-use super::slices::{find, may_follow};
 use std::alloc::{AllocError, Global};
 
 /// Records, `MOST` at the most, each with its key above the one before.
@@ -35,7 +34,7 @@ impl<R: Keyed + Drop, const MOST: usize> Rising<R, MOST> {
     pub fn rises(&self, record: &R) -> bool
         ensures { result ≡ follows (below R.Key.cmp) R.keyed self.now.shelf.records.items (R.keyed «record».now) }
     {
-        may_follow(self.shelf.records(), &record.key())
+        self.shelf.rises(record)
     }
 
     /// Puts a record after the others; one that does not fit, or whose key may not follow, changes nothing.
@@ -58,7 +57,7 @@ impl<R: Keyed + Drop, const MOST: usize> Rising<R, MOST> {
     pub fn has(&self, key: &R::Key) -> bool
         ensures { result ≡ has_key (below R.Key.cmp) R.keyed key.now self.now.shelf.records.items }
     {
-        find(self.shelf.records(), key).is_some()
+        self.shelf.has(key)
     }
 }
 

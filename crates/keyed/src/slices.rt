@@ -5,6 +5,7 @@ ghost use Rattle.std.specs.List.{HoldsAt};
 ghost use Rattle.keyed.specs.Orders.{below, rising, follows, find_of};
 
 use super::keys::Keyed;
+use std::cmp::Ordering;
 
 /// Whether a record with this key may follow these: its key is above the last one's.
 pub fn may_follow<R: Keyed>(records: &[R], key: &R::Key) -> bool
@@ -30,7 +31,16 @@ pub fn find<R: Keyed>(records: &[R], key: &R::Key) -> Option<usize>
     ensures same { IfSome result (λ i. HoldsAt (λ x. R.keyed x ≡ key.now) records.now i) }
     ensures value { rising (below R.Key.cmp) R.keyed records.now ≡ true → result ≡ find_of (below R.Key.cmp) R.keyed key.now records.now }
 {
-    records
-        .binary_search_by_key(key, |record| record.key())
-        .ok()
+    // by hand: std's search goes on to the end where it meets the key, and this one stops there
+    let mut low = 0usize;
+    let mut high = records.len();
+    while low < high {
+        let mid = low + (high - low) / 2;
+        match records[mid].key().cmp(key) {
+            Ordering::Less => low = mid + 1,
+            Ordering::Equal => return Some(mid),
+            Ordering::Greater => high = mid,
+        }
+    }
+    None
 }

@@ -1,8 +1,10 @@
 //! How records are put on a shelf and looked up.
 
-ghost use Rattle.std.specs.Prelude.{◌≡◌, [], length, IfOk, nat_lt, slice_get};
-ghost use Rattle.keyed.specs.Orders.{placed};
+ghost use Rattle.std.specs.Prelude.{◌≡◌, true, [], length, IfOk, nat_lt, slice_get};
+ghost use Rattle.keyed.specs.Orders.{below, follows, has as has_key, placed, rising};
 
+use super::super::keys::Keyed;
+use super::super::slices::{find, may_follow};
 use super::Shelf;
 use std::alloc::{AllocError, Global};
 
@@ -59,5 +61,22 @@ impl<R: Copy + Drop, const MOST: usize> Shelf<R, MOST> {
         ensures { result ≡ slice_get self.now.records.items k }
     {
         self.records.get(k).copied()
+    }
+}
+
+impl<R: Keyed + Drop, const MOST: usize> Shelf<R, MOST> {
+    /// Whether a record's key is above the last one's.
+    pub fn rises(&self, record: &R) -> bool
+        ensures { result ≡ follows (below R.Key.cmp) R.keyed self.now.records.items (R.keyed «record».now) }
+    {
+        may_follow(&self.records, &record.key())
+    }
+
+    /// Whether a record has this key. If the keys do not rise, one that has it may be missed.
+    pub fn has(&self, key: &R::Key) -> bool
+        ensures sure { result ≡ true → has_key (below R.Key.cmp) R.keyed key.now self.now.records.items ≡ true }
+        ensures value { rising (below R.Key.cmp) R.keyed self.now.records.items ≡ true → result ≡ has_key (below R.Key.cmp) R.keyed key.now self.now.records.items }
+    {
+        find(&self.records, key).is_some()
     }
 }

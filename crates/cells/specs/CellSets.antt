@@ -1,5 +1,5 @@
 -- Places that are sets of cells, and their words.
-use Rattle.std.specs.Prelude.{ℕ, ◌+◌, ◌*◌, ◌/◌, ◌^◌, Bool, List, ◌∷◌, map, ◌==◌, slice_index}
+use Rattle.std.specs.Prelude.{ℕ, ◌+◌, ◌*◌, ◌/◌, ◌^◌, Bool, List, ◌∷◌, map, take, ◌==◌, slice_index}
 use Rattle.sets.specs.Member.{member}
 use Rattle.wordlist.specs.Fields.{field}
 use Rattle.listed.specs.Makes.{Make}
@@ -43,4 +43,4 @@ cells_make = record {
 
 -- what a kept place says
 abbrev pub cell_rows_of : CellSet → CellRows
-cell_rows_of c = record { ty = c.ty; rows = c.rows.items }
+cell_rows_of c = record { ty = c.ty; rows = take c.count c.rows }

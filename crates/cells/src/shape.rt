@@ -42,12 +42,12 @@ impl Shape for CellSet {
 
     ghost exact = { Rows.exact };
 
-    fn head_kind() -> Kind {
-        Kind::Cells
+    fn head_kind() -> u32 {
+        Kind::Cells.number()
     }
 
-    fn body_kind() -> Kind {
-        Kind::Row
+    fn body_kind() -> u32 {
+        Kind::Row.number()
     }
 
     fn sound_head(word: u32) -> bool {
@@ -61,6 +61,7 @@ impl Shape for CellSet {
     fn build(_floor: Floor, head: u32, body: &ArrayVec<u32, 16>) -> CellSet {
         CellSet {
             ty: bits(head, 0, 4) as u8,
+            count: body.len(),
             rows: parts(body, row),
         }
     }
@@ -70,8 +71,7 @@ impl Shape for CellSet {
     }
 
     fn covers(&self, at: Point) -> bool {
-        self.rows
-            .as_slice()
+        self.rows[..self.count]
             .get((at.y / 16) as usize)
             .is_some_and(|row| has_column(*row, at.x / 16))
     }

@@ -1,5 +1,5 @@
 -- Places drawn as closed rings of corners, and their words.
-use Rattle.std.specs.Prelude.{ℕ, ◌+◌, ◌*◌, ◌^◌, Bool, ◌&&◌, List, ◌∷◌, map, length, ◌==◌, nat_le, nat_lt}
+use Rattle.std.specs.Prelude.{ℕ, ◌+◌, ◌*◌, ◌^◌, Bool, ◌&&◌, List, ◌∷◌, map, length, take, ◌==◌, nat_le, nat_lt}
 use Rattle.wordlist.specs.Fields.{field}
 use Rattle.listed.specs.declared.floor.Floor.{Floor}
 use Rattle.listed.specs.Makes.{Make}
@@ -44,4 +44,4 @@ drawn_make = record {
 
 -- what a kept place says
 abbrev pub drawing_of : Outline → Drawing
-drawing_of o = record { ty = o.ty; corners = o.corners.items }
+drawing_of o = record { ty = o.ty; corners = take o.count o.corners }

@@ -37,12 +37,12 @@ impl Shape for Outline {
 
     ghost exact = { Corners.exact };
 
-    fn head_kind() -> Kind {
-        Kind::Ring
+    fn head_kind() -> u32 {
+        Kind::Ring.number()
     }
 
-    fn body_kind() -> Kind {
-        Kind::Corner
+    fn body_kind() -> u32 {
+        Kind::Corner.number()
     }
 
     fn sound_head(word: u32) -> bool {
@@ -58,6 +58,7 @@ impl Shape for Outline {
     fn build(_floor: Floor, head: u32, body: &ArrayVec<u32, 16>) -> Outline {
         Outline {
             ty: bits(head, 0, 4) as u8,
+            count: body.len(),
             corners: parts(body, corner),
         }
     }
@@ -67,6 +68,6 @@ impl Shape for Outline {
     }
 
     fn covers(&self, at: Point) -> bool {
-        covered(self.corners.as_slice(), at)
+        covered(&self.corners[..self.count], at)
     }
 }

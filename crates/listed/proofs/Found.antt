@@ -17,16 +17,16 @@ module _ {S P : Type 0} (meaning : P → Place) (model : S → P) (xs ys : List 
       let there : k < length xs = ltb-true _ _ (sym (l ∙ ap (λ (zs : List S). ltb k (length zs)) same)) in
       ap model at ∙ sym (get_or-map model xs k p (model p) there)
 
-  type_found : (p : S) → true ≡ ltb k (length ys) → p ≡ get_or ys k p → Some (meaning (model p)).ty ≡ type_at (record { width = w; height = h; places = map meaning (map model xs) }) k
+  pub type_found : (p : S) → true ≡ ltb k (length ys) → p ≡ get_or ys k p → Some (meaning (model p)).ty ≡ type_at (record { width = w; height = h; places = map meaning (map model xs) }) k
   type_found p l e = found_type meaning (map model xs) w h k (map model xs) (model p) refl (inside true l) (entry p l e)
 
-  no_type_found : false ≡ ltb k (length ys) → None ≡ type_at (record { width = w; height = h; places = map meaning (map model xs) }) k
+  pub no_type_found : false ≡ ltb k (length ys) → None ≡ type_at (record { width = w; height = h; places = map meaning (map model xs) }) k
   no_type_found l = no_type meaning (map model xs) w h k (map model xs) refl (inside false l)
 
-  covers_found : (p : S) (x y : ℕ) → true ≡ ltb k (length ys) → p ≡ get_or ys k p → x < w → y < h → (meaning (model p)).covers x y ≡ covers_at (record { width = w; height = h; places = map meaning (map model xs) }) k x y
+  pub covers_found : (p : S) (x y : ℕ) → true ≡ ltb k (length ys) → p ≡ get_or ys k p → x < w → y < h → (meaning (model p)).covers x y ≡ covers_at (record { width = w; height = h; places = map meaning (map model xs) }) k x y
   covers_found p x y l e i j = found_covers meaning (map model xs) w h k (map model xs) (model p) x y refl (inside true l) (entry p l e) i j
 
-  no_covers_found : (x y : ℕ) → false ≡ ltb k (length ys) → x < w → y < h → false ≡ covers_at (record { width = w; height = h; places = map meaning (map model xs) }) k x y
+  pub no_covers_found : (x y : ℕ) → false ≡ ltb k (length ys) → x < w → y < h → false ≡ covers_at (record { width = w; height = h; places = map meaning (map model xs) }) k x y
   no_covers_found x y l i j = no_covers meaning (map model xs) w h k (map model xs) x y refl (inside false l) i j
 
   -- the answers, where o is what is found at k, and Q what the call at it gives

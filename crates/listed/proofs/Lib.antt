@@ -1,2 +1,3 @@
 pub mod Exactly
 pub mod Found
+pub mod Padded

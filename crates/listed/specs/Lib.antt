@@ -3,3 +3,4 @@ pub mod Waiting
 pub mod Layouts
 pub mod Reading
 pub mod Spelling
+pub mod Padding

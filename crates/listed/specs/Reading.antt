@@ -90,13 +90,13 @@ module _ {P : Type 0} (m : Make P) where
   layout_from ws = given (λ s. s.layout) (read_of list_rules start ws)
 
 -- what the program holds
-abbrev pub turn_of : Next → Turn
-turn_of next.Front = front
-turn_of next.Head = head
-turn_of (next.Body h b n) = body h b.items n
+abbrev pub turn_of : Next → List ℕ → Turn
+turn_of next.Front ws = front
+turn_of next.Head ws = head
+turn_of (next.Body h n) ws = body h ws n
 
 abbrev pub progress_of : {S P : Type 0} → (S → P) → Draft S → Progress P
-progress_of model d = record { layout = layout_of model d.sheet; turn = turn_of d.next }
+progress_of model d = record { layout = layout_of model d.sheet; turn = turn_of d.next d.body.items }
 
 -- what the plan made from a list means: refused words give a floor of one point with no place
 abbrev pub hall_from : {P : Type 0} → Make P → List ℕ → Hall

@@ -4,12 +4,10 @@ ghost use Rattle.std.specs.Prelude.{◌≡◌, ℕ, ◌≤◌, true};
 ghost use Rattle.plan.specs.Hall.{Place};
 ghost use Rattle.wordlist.specs.Cutting.{body_of};
 ghost use Rattle.listed.specs.Makes.{Make, Exact};
-ghost use Rattle.wordlist.specs.Kinds.{number_of};
 
 use super::floor::Floor;
 use arrayvec::ArrayVec;
 use point::Point;
-use wordlist::kinds::Kind;
 
 /// A place that is read from a head and the words after it.
 pub trait Shape {
@@ -23,12 +21,13 @@ pub trait Shape {
     ghost model: { Self → Model };
 
     /// The kind of a place's head.
-    fn head_kind() -> Kind
-        ensures { number_of result ≡ make.head };
+    // A number and no Kind: a make of place may have words of a kind that has no name here.
+    fn head_kind() -> u32
+        ensures { result ≡ make.head };
 
     /// The kind of the words after it.
-    fn body_kind() -> Kind
-        ensures { number_of result ≡ make.body };
+    fn body_kind() -> u32
+        ensures { result ≡ make.body };
 
     /// Whether a head's fields are good.
     fn sound_head(word: u32) -> bool

@@ -16,10 +16,14 @@ fn points_of_row<P: Plan>(plan: &P, place: usize, y: u16) -> u32
     ensures value { result ≡ points_of_row_spec (P.hall plan.now) place y }
     ensures most { result ≤ 256 }
 {
-    let points = (0..plan.width())
-        .filter(|x| plan.covers(place, Point { x: *x, y }))
-        .count();
-    points as u32
+    let mut points = 0u32;
+    // a loop: `filter` and `count` take nearly twice as long on cells
+    for x in 0..plan.width() {
+        if plan.covers(place, Point { x, y }) {
+            points += 1;
+        }
+    }
+    points
 }
 
 /// How many points a place covers.

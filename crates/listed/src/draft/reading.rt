@@ -1,7 +1,6 @@
 //! How a list is read into a draft.
 
 ghost use Rattle.std.specs.Prelude.{◌≡◌, ℕ, ◌+◌, ◌<◌, ◌≤◌, IfOk, length};
-ghost use Rattle.arrayvec.specs.ArrayVec.{array_vec_len};
 ghost use Rattle.plan.specs.Hall.{most_places};
 ghost use Rattle.wordlist.specs.Given.{given_from};
 ghost use Rattle.wordlist.specs.Reading.{passing};
@@ -39,6 +38,7 @@ impl<S: Shape + Drop> Draft<S> {
         Ok(Draft {
             sheet,
             next: Next::Front,
+            body: ArrayVec::new(),
         })
     }
 
@@ -51,17 +51,17 @@ impl<S: Shape + Drop> Draft<S> {
     }
 
     /// A place with so many words owed: without any it is whole, and put with the others.
-    fn grow(&mut self, head: u32, body: ArrayVec<u32, 16>, owed: usize)
+    fn grow(&mut self, head: u32, owed: usize)
         requires room { length self.old.sheet.places.records.items < most_places }
-        requires short { array_vec_len body + owed ≤ 16 }
-        ensures { progress_of S.Shape.model self.new ≡ grown S.Shape.make (layout_of S.Shape.model self.old.sheet) head body.items owed }
+        requires short { length self.old.body.items + owed ≤ 16 }
+        ensures { progress_of S.Shape.model self.new ≡ grown S.Shape.make (layout_of S.Shape.model self.old.sheet) head self.old.body.items owed }
     {
         if owed == 0 {
-            let place = S::build(self.sheet.floor, head, &body);
+            let place = S::build(self.sheet.floor, head, &self.body);
             self.sheet.places.put(place);
             self.next = Next::Head;
         } else {
-            self.next = Next::Body { head, body, owed };
+            self.next = Next::Body { head, owed };
         }
     }
 }
@@ -74,18 +74,16 @@ impl<S: Shape + Drop> WordList for Draft<S> {
     ghost state = { progress_of S.Shape.model };
 
     fn belongs(&self, kind: u32) -> bool {
-        kind == Kind::Floor.number()
-            || kind == S::head_kind().number()
-            || kind == S::body_kind().number()
+        kind == Kind::Floor.number() || kind == S::head_kind() || kind == S::body_kind()
     }
 
     fn in_turn(&self, word: u32) -> bool {
         let due = match self.next {
-            Next::Front => Kind::Floor,
+            Next::Front => Kind::Floor.number(),
             Next::Head => S::head_kind(),
             Next::Body { .. } => S::body_kind(),
         };
-        kind(word) == due.number()
+        kind(word) == due
     }
 
     fn has_room(&self, _word: u32) -> bool {
@@ -114,14 +112,13 @@ impl<S: Shape + Drop> WordList for Draft<S> {
                     height: bits(word, 9, 9) as u16,
                 };
             }
-            Next::Head => self.grow(word, ArrayVec::new(), body_of(word)),
-            Next::Body {
-                head,
-                mut body,
-                owed,
-            } => {
-                body.push(word);
-                self.grow(head, body, owed - 1);
+            Next::Head => {
+                self.body.clear();
+                self.grow(word, body_of(word));
+            }
+            Next::Body { head, owed } => {
+                self.body.push(word);
+                self.grow(head, owed - 1);
             }
         }
     }

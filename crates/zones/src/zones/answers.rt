@@ -37,7 +37,8 @@ impl<P: Plan> Plan for Zones<P> {
     }
 
     fn count(&self) -> usize {
-        self.below.count() + self.in_use().len()
+        // asked once: the plan below may be a pile itself
+        (self.below.count() + self.zones.records().len()).min(64)
     }
 
     fn type_of(&self, place: usize) -> Option<u8> {

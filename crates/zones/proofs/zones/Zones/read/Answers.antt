@@ -2,7 +2,6 @@
 use Rattle.std.proofs.Common.{◌≡◌, ◌≤◌, length, min, refl, subst, arith}
 use Rattle.plan.specs.Hall.{most_places}
 use Rattle.wordlist.specs.Outcomes.{answered, replaced}
-use Rattle.zones.specs.Piles.{in_use}
 use Rattle.zones.specs.Reading.{progress_of, start, zones_from}
 use Rattle.zones.proofs.Exactly.{exactly_after, all_after}
 use Rattle.zones.proofs.zones.Zones.read.Goals as goal

@@ -5,7 +5,7 @@ use Rattle.plan.specs.Hall.{covers_at}
 use Rattle.plan.proofs.Rows.{covers_past}
 use Rattle.sets.proofs.Filled.{Filled, filled_with, filled_skip, filled_all}
 use Rattle.zones.specs.Piles.{in_use, zone_hall}
-use Rattle.zones.specs.PilesLemmas.{in_use_length, over_length, row_below, row_zone, row_off}
+use Rattle.zones.specs.PilesLemmas.{in_use_length, over_length, row_below, row_in_use, row_off}
 use Rattle.zones.proofs.zones.answers.ZonesPlan.places_at.Goals as goal
 use Rattle.zones.proofs.zones.answers.ZonesPlan.places_at.Goals.{then-at-width-via-then-at-width, then-at-width-via-else-at-width+then-at-height, then-holds, else-holds}
 
@@ -29,7 +29,7 @@ loop-k-preserved g c =
     let f : ℕ → Bool = λ j. covers_at (zone_hall h zs) j c.args.at.x c.args.at.y in
     let k : ℕ = c.count-first.result + c.loop-k.k in
     let more : c.count-first.result + (c.loop-k.k + 1) ≡ k + 1 = omega arith in
-    let is : c.holds.result ≡ f k = c.holds.ensures ∙ row_zone h zs few c.loop-k.k k c.args.at.x c.args.at.y c.in_use-zone-items.result.now _ c.loop-k.covering.bits (omega arith) (omega arith) (omega (arith, c.count-first.ensures)) c.in_use-zone-items.ensures c.loop-k-test.true c.loop-k.invariant in
+    let is : c.holds.result ≡ f k = c.holds.ensures ∙ row_in_use h zs few c.loop-k.k k c.args.at.x c.args.at.y c.in_use-zone-items.result.now _ c.loop-k.covering.bits (omega arith) (omega arith) (omega (arith, c.count-first.ensures)) c.in_use-zone-items.ensures c.loop-k-test.true c.loop-k.invariant in
     let low : k < 64 = omega (arith, c.loop-k-test.true, c.count-first.ensures, ap length c.in_use-zone-items.ensures, in_use_length (length h.places) zs, few) in
     rw more
     (elim c.if-holds.branch [

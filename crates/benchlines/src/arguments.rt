@@ -46,7 +46,7 @@ fn argument(line: &[u8], most: usize) -> Option<(u16, &[u8])>
 }
 
 /// The arguments of a line, just N of them, each with at most so many digits.
-pub fn arguments<const N: usize>(line: &[u8], most: usize) -> Option<[u16; N]>
+fn every_argument<const N: usize>(line: &[u8], most: usize) -> Option<[u16; N]>
     ensures { result ≡ arguments_of most N line.now }
 {
     let mut numbers = [0; N];
@@ -57,4 +57,22 @@ pub fn arguments<const N: usize>(line: &[u8], most: usize) -> Option<[u16; N]>
         rest = after;
     }
     rest.is_empty().then_some(numbers)
+}
+
+/// What a line has from a place on; nothing where the place is past its end.
+fn left_from(line: &[u8], from: usize) -> &[u8]
+    ensures { result.now ≡ drop from line.now }
+{
+    if from < line.len() {
+        &line[from..]
+    } else {
+        &[]
+    }
+}
+
+/// The arguments from a place to the end of the line, just N of them, each with at most so many digits.
+pub fn arguments<const N: usize>(line: &[u8], from: usize, most: usize) -> Option<[u16; N]>
+    ensures { result ≡ arguments_of most N (drop from line.now) }
+{
+    every_argument(left_from(line, from), most)
 }

@@ -20,34 +20,33 @@ pub fn call_of(line: &[u8]) -> Option<Call>
     if line.len() > LONGEST_LINE {
         return None;
     }
-    let (&letter, rest) = line.split_first()?;
-    let (badge, event) = match char::from(letter) {
+    let (badge, event) = match char::from(*line.first()?) {
         'R' => {
-            let [badge, x, y] = arguments::<3>(rest, MOST_DIGITS)?;
+            let [badge, x, y] = arguments::<3>(line, 1, MOST_DIGITS)?;
             (badge, Event::Report { at: Point { x, y } })
         }
         'M' => {
-            let [badge] = arguments::<1>(rest, MOST_DIGITS)?;
+            let [badge] = arguments::<1>(line, 1, MOST_DIGITS)?;
             (badge, Event::Miss)
         }
         'O' => {
-            let [badge, session] = arguments::<2>(rest, MOST_DIGITS)?;
+            let [badge, session] = arguments::<2>(line, 1, MOST_DIGITS)?;
             (badge, Event::Open { session })
         }
         'C' => {
-            let [badge, session] = arguments::<2>(rest, MOST_DIGITS)?;
+            let [badge, session] = arguments::<2>(line, 1, MOST_DIGITS)?;
             (badge, Event::Close { session })
         }
         'A' => {
-            let [badge, session, role] = arguments::<3>(rest, MOST_DIGITS)?;
+            let [badge, session, role] = arguments::<3>(line, 1, MOST_DIGITS)?;
             (badge, Event::Activate { session, role })
         }
         'D' => {
-            let [badge, session, role] = arguments::<3>(rest, MOST_DIGITS)?;
+            let [badge, session, role] = arguments::<3>(line, 1, MOST_DIGITS)?;
             (badge, Event::Drop { session, role })
         }
         'Q' => {
-            let [badge, session, operation, object] = arguments::<4>(rest, MOST_DIGITS)?;
+            let [badge, session, operation, object] = arguments::<4>(line, 1, MOST_DIGITS)?;
             (
                 badge,
                 Event::Ask {

@@ -1,9 +1,9 @@
--- `arguments`: one argument more.
+-- `every_argument`: one argument more.
 use Rattle.std.proofs.Common.{◌≡◌, ◌+◌, ◌-◌, ◌<◌, length, [], ◌∷◌, ◌++◌, take, ap, ◌∙◌, arith}
 use Rattle.std.proofs.lemmas.List.{length-set, take_more_set}
 use Rattle.benchlines.specs.Arguments.{arguments_of}
 use Rattle.benchlines.proofs.Steps.{after, arguments_step}
-use Rattle.benchlines.proofs.arguments.arguments.Goals as goal
+use Rattle.benchlines.proofs.arguments.every_argument.Goals as goal
 
 pub loop-number-preserved : goal.loop-number-preserved
 loop-number-preserved g c =

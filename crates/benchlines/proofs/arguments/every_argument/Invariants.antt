@@ -1,7 +1,7 @@
 use Rattle.std.proofs.Common.{◌≡◌, ◌-◌, length, take}
 use Rattle.benchlines.specs.Arguments.{arguments_of}
 use Rattle.benchlines.proofs.Steps.{after}
-use Rattle.benchlines.proofs.arguments.arguments.Given as goal
+use Rattle.benchlines.proofs.arguments.every_argument.Given as goal
 
 -- the arguments read, with those that are left, are all
 abbrev pub invariant-loop-number : goal.invariant-loop-number

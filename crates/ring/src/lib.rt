@@ -41,27 +41,27 @@ fn between(a: u16, b: u16, n: u16) -> bool
 
 impl Edge {
     /// D of the edge and the point: on which side of the edge the point lies.
-    fn side(self, at: Point) -> i64
-        ensures { result ≡ side_of self.from self.to at.x at.y }
+    fn side(&self, at: Point) -> i64
+        ensures { result ≡ side_of self.now.from self.now.to at.x at.y }
     {
-        let Edge { from, to } = self;
+        let Edge { from, to } = *self;
         times(step(from.x, to.x), step(from.y, at.y))
             - times(step(from.y, to.y), step(from.x, at.x))
     }
 
     /// Whether the point is on the edge.
-    fn contains(self, at: Point) -> bool
-        ensures { result ≡ on_edge self.from self.to at.x at.y }
+    fn contains(&self, at: Point) -> bool
+        ensures { result ≡ on_edge self.now.from self.now.to at.x at.y }
     {
-        let Edge { from, to } = self;
+        let Edge { from, to } = *self;
         between(from.x, to.x, at.x) && between(from.y, to.y, at.y) && self.side(at) == 0
     }
 
     /// Whether the edge is crossed.
-    fn crossed(self, at: Point) -> bool
-        ensures { result ≡ crosses self.from self.to at.x at.y }
+    fn crossed(&self, at: Point) -> bool
+        ensures { result ≡ crosses self.now.from self.now.to at.x at.y }
     {
-        let Edge { from: a, to: b } = self;
+        let Edge { from: a, to: b } = *self;
         let y = at.y;
         (a.y > y) != (b.y > y)
             && if a.y < b.y {

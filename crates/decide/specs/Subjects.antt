@@ -19,8 +19,8 @@ module _ {P : Type 0} (hall : P → Hall) (s : Subject P) where
 
   -- why an event of the badge is refused, if it is
   abbrev pub refused_by : Event → Option Refusal
-  refused_by e = refusal over (standing_of s.badge) (call s.number e)
+  refused_by e = refusal over (standing_of s.badge.now) (call s.number e)
 
   -- what the badge's call or question is answered
   abbrev pub reply_by : Event → Answer
-  reply_by e = reply over (standing_of s.badge) (call s.number e)
+  reply_by e = reply over (standing_of s.badge.now) (call s.number e)

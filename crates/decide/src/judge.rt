@@ -8,6 +8,7 @@ use crate::subject::Subject;
 use calls::call::Event;
 use calls::refusal::Refusal;
 use plan::Plan;
+use point::Point;
 
 impl<'a, P: Plan> Subject<'a, P> {
     /// Whether the event is refused.
@@ -15,7 +16,8 @@ impl<'a, P: Plan> Subject<'a, P> {
         ensures { result_err result ≡ refused_by P.Plan.hall self.now event }
     {
         match event {
-            Event::Report { at } => self.report(at),
+            // its two numbers apart: read as one, they wait until both of the caller's writes are done
+            Event::Report { at: Point { x, y } } => self.report(Point { x, y }),
             Event::Miss => self.miss(),
             Event::Open { session } => self.open(session),
             Event::Close { session } | Event::Roles { session } => self.open_session(session),

@@ -15,7 +15,7 @@ use plan::Plan;
 impl<'a, P: Plan> Subject<'a, P> {
     /// The place where the badge is for a role.
     pub fn place_of(&self, role: usize) -> Option<usize>
-        ensures { result ≡ where_is (over P.Plan.hall self.now) (standing_of self.now.badge) role }
+        ensures { result ≡ where_is (over P.Plan.hall self.now) (standing_of self.now.badge.now) role }
     {
         let Heard { at, misses } = self.badge.track()?;
         self.site.place_for(role, at, misses)
@@ -23,7 +23,7 @@ impl<'a, P: Plan> Subject<'a, P> {
 
     /// Whether a role is enabled for the badge: where it is lies in the role's extent.
     pub fn is_enabled(&self, role: usize) -> bool
-        ensures { result ≡ enabled_by (over P.Plan.hall self.now) (standing_of self.now.badge) role }
+        ensures { result ≡ enabled_by (over P.Plan.hall self.now) (standing_of self.now.badge.now) role }
     {
         // where the badge is comes first, and without it nothing is asked
         let Some(place) = self.place_of(role) else {
@@ -34,7 +34,7 @@ impl<'a, P: Plan> Subject<'a, P> {
 
     /// Whether the badge was heard and a role bears its misses.
     pub fn is_patient(&self, role: usize) -> bool
-        ensures { result ≡ patient_by (over P.Plan.hall self.now) (standing_of self.now.badge) role }
+        ensures { result ≡ patient_by (over P.Plan.hall self.now) (standing_of self.now.badge.now) role }
     {
         self.badge
             .track()

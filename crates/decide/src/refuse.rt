@@ -17,7 +17,7 @@ use point::Point;
 impl<'a, P: Plan> Subject<'a, P> {
     /// Refused where there is no such badge.
     fn known_badge(&self) -> Result<(), Refusal>
-        ensures { result_err result ≡ first_reason (no_badge (over P.Plan.hall self.now) (standing_of self.now.badge) self.now.number ∷ []) }
+        ensures { result_err result ≡ first_reason (no_badge (over P.Plan.hall self.now) (standing_of self.now.badge.now) self.now.number ∷ []) }
     {
         if self.number >= u16::from(self.site.badges()) {
             return Err(Refusal::UnknownBadge);
@@ -27,7 +27,7 @@ impl<'a, P: Plan> Subject<'a, P> {
 
     /// Refused where there is no such badge, or no such session.
     fn known_session(&self, session: u16) -> Result<(), Refusal>
-        ensures { result_err result ≡ first_reason (no_badge (over P.Plan.hall self.now) (standing_of self.now.badge) self.now.number ∷ no_session (over P.Plan.hall self.now) (standing_of self.now.badge) session ∷ []) }
+        ensures { result_err result ≡ first_reason (no_badge (over P.Plan.hall self.now) (standing_of self.now.badge.now) self.now.number ∷ no_session (over P.Plan.hall self.now) (standing_of self.now.badge.now) session ∷ []) }
     {
         self.known_badge()?;
         if session >= SESSIONS {
@@ -38,7 +38,7 @@ impl<'a, P: Plan> Subject<'a, P> {
 
     /// Refused where there is no such role.
     fn known_role(&self, role: u16) -> Result<(), Refusal>
-        ensures { result_err result ≡ first_reason (no_role (over P.Plan.hall self.now) (standing_of self.now.badge) role ∷ []) }
+        ensures { result_err result ≡ first_reason (no_role (over P.Plan.hall self.now) (standing_of self.now.badge.now) role ∷ []) }
     {
         if role as usize >= self.site.role_count() {
             return Err(Refusal::UnknownRole);
@@ -48,7 +48,7 @@ impl<'a, P: Plan> Subject<'a, P> {
 
     /// Refused where a session cannot be asked of: no such badge, no such session, or it is not open.
     pub fn open_session(&self, session: u16) -> Result<(), Refusal>
-        ensures { result_err result ≡ first_reason (no_badge (over P.Plan.hall self.now) (standing_of self.now.badge) self.now.number ∷ no_session (over P.Plan.hall self.now) (standing_of self.now.badge) session ∷ not_open (over P.Plan.hall self.now) (standing_of self.now.badge) session ∷ []) }
+        ensures { result_err result ≡ first_reason (no_badge (over P.Plan.hall self.now) (standing_of self.now.badge.now) self.now.number ∷ no_session (over P.Plan.hall self.now) (standing_of self.now.badge.now) session ∷ not_open (over P.Plan.hall self.now) (standing_of self.now.badge.now) session ∷ []) }
     {
         self.known_session(session)?;
         if !self.badge.is_open(session) {

@@ -8,5 +8,6 @@ use site::site::Site;
 pub struct Subject<'a, P> {
     pub site: &'a Site<P>,
     pub number: u16,
-    pub badge: Badge,
+    // Lent, not copied: a call looks at little of it.
+    pub badge: &'a Badge,
 }

@@ -6,6 +6,7 @@ ghost use Rattle.history.specs.Laws.{call};
 ghost use Rattle.guard.specs.Stands.{ContinuesBy, Grants, PerformsBy};
 
 use super::Guard;
+use calls::badge::Badge;
 use calls::refusal::Refusal;
 use plan::Plan;
 use sets::Set64;
@@ -17,7 +18,9 @@ impl<P: Plan> Guard<P> {
         ensures performs { PerformsBy P.Plan.hall self.now self.now (call badge (Where role)) (placed result) }
         ensures law { ContinuesBy P.Plan.hall self.now self.now (call badge (Where role)) (placed result) }
     {
-        self.subject(badge).place(role)
+        let fresh = Badge::fresh();
+        let kept = self.kept(badge, &fresh);
+        self.subject(badge, kept).place(role)
     }
 
     /// Whether a role is enabled for a badge: it is at a place that lies in the role's extent.
@@ -25,7 +28,9 @@ impl<P: Plan> Guard<P> {
         ensures performs { PerformsBy P.Plan.hall self.now self.now (call badge (Enabled role)) (judged result) }
         ensures law { ContinuesBy P.Plan.hall self.now self.now (call badge (Enabled role)) (judged result) }
     {
-        self.subject(badge).enabled(role)
+        let fresh = Badge::fresh();
+        let kept = self.kept(badge, &fresh);
+        self.subject(badge, kept).enabled(role)
     }
 
     /// The roles that are active in a session of the badge and enabled.
@@ -33,7 +38,9 @@ impl<P: Plan> Guard<P> {
         ensures performs { PerformsBy P.Plan.hall self.now self.now (call badge (Roles session)) (gathered result) }
         ensures law { ContinuesBy P.Plan.hall self.now self.now (call badge (Roles session)) (gathered result) }
     {
-        self.subject(badge).roles(session)
+        let fresh = Badge::fresh();
+        let kept = self.kept(badge, &fresh);
+        self.subject(badge, kept).roles(session)
     }
 
     /// The lowest-numbered role by which a badge is granted an operation on an object in a session: the role is active
@@ -49,6 +56,8 @@ impl<P: Plan> Guard<P> {
         ensures law { ContinuesBy P.Plan.hall self.now self.now (call badge (Ask session operation object)) (granted result) }
         ensures exactly { Grants (P.Plan.hall self.now.site.plan) self.now badge session operation object (granted result) }
     {
-        self.subject(badge).ask(session, operation, object)
+        let fresh = Badge::fresh();
+        let kept = self.kept(badge, &fresh);
+        self.subject(badge, kept).ask(session, operation, object)
     }
 }

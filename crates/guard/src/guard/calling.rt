@@ -3,6 +3,7 @@
 ghost use Rattle.std.specs.Prelude.{◌≡◌, ℕ};
 ghost use Rattle.std.specs.Result.{result_err};
 ghost use Rattle.calls.specs.Kept.{standing_of};
+ghost use Rattle.calls.specs.Standing.{nothing_yet};
 ghost use Rattle.calls.specs.declared.call.Event.{Event};
 ghost use Rattle.calls.specs.declared.call.Event.TheVariants.{Report, Miss, Open, Close, Activate, Drop as Dropped};
 ghost use Rattle.decide.specs.Answers.{done};
@@ -22,25 +23,22 @@ use plan::Plan;
 use point::Point;
 
 impl<P: Plan> Guard<P> {
-    /// What is kept of a badge; one that is not there was never heard.
-    fn state(&self, badge: u16) -> Badge
-        ensures { standing_of result ≡ kept_of self.now badge }
+    /// What is kept of a badge, lent and not copied; one that is not there was never heard, as the badge beside it.
+    pub(crate) fn kept<'a>(&'a self, badge: u16, fresh: &'a Badge) -> &'a Badge
+        ensures { standing_of fresh.now ≡ nothing_yet → standing_of result.now ≡ kept_of self.now badge }
     {
-        self.badges
-            .get(badge as usize)
-            .copied()
-            .unwrap_or_else(Badge::fresh)
+        self.badges.get(badge as usize).unwrap_or(fresh)
     }
 
     /// A badge by its number and by what is kept of it, over the site.
-    pub(crate) fn subject(&self, badge: u16) -> Subject<'_, P>
-        ensures refuses { (e : Event) → refused_by P.Plan.hall result e ≡ refusal_of (ground_in (P.Plan.hall self.now.site.plan) self.now) (kept_of self.now badge) (call badge e) }
-        ensures replies { (e : Event) → reply_by P.Plan.hall result e ≡ reply (ground_in (P.Plan.hall self.now.site.plan) self.now) (kept_of self.now badge) (call badge e) }
+    pub(crate) fn subject<'a>(&'a self, badge: u16, kept: &'a Badge) -> Subject<'a, P>
+        ensures refuses { (e : Event) → refused_by P.Plan.hall result e ≡ refusal_of (ground_in (P.Plan.hall self.now.site.plan) self.now) (standing_of kept.now) (call badge e) }
+        ensures replies { (e : Event) → reply_by P.Plan.hall result e ≡ reply (ground_in (P.Plan.hall self.now.site.plan) self.now) (standing_of kept.now) (call badge e) }
     {
         Subject {
             site: &self.site,
             number: badge,
-            badge: self.state(badge),
+            badge: kept,
         }
     }
 
@@ -50,7 +48,9 @@ impl<P: Plan> Guard<P> {
         ensures site { self.new.site ≡ self.old.site }
         ensures kept { (b : ℕ) → kept_of self.new b ≡ kept_after (P.Plan.hall self.old.site.plan) self.old (call badge event) b }
     {
-        self.subject(badge).refusal(event)?;
+        let fresh = Badge::fresh();
+        let kept = self.kept(badge, &fresh);
+        self.subject(badge, kept).refusal(event)?;
         self.badges[badge as usize].apply(event);
         Ok(())
     }

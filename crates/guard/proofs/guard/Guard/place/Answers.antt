@@ -1,8 +1,11 @@
 -- `place`: the question is answered by what is kept of the badge.
-use Rattle.std.proofs.Common.{refl, ◌∙◌}
+use Rattle.std.proofs.Common.{refl, ap, ◌∙◌}
 use Rattle.calls.specs.declared.call.Event.TheVariants.{Where}
 use Rattle.decide.specs.Answers.{placed}
 use Rattle.history.specs.Laws.{call}
+use Rattle.history.specs.Replies.{reply}
+use Rattle.calls.specs.Standing.{Standing}
+use Rattle.guard.specs.Kept.{ground_in}
 use Rattle.guard.proofs.Performed.{asks_on}
 use Rattle.guard.proofs.guard.Guard.place.Goals as goal
 
@@ -11,5 +14,5 @@ returns g c =
     let v = c.args.self.now in
     let h = g.P.Plan.hall v.site.plan in
     let e = call c.args.badge (Where c.args.role) in
-    let both = asks_on h v e (placed c.place.result) (λ st. refl) (c.place.ensures ∙ c.subject.ensures.replies (Where c.args.role)) in
+    let both = asks_on h v e (placed c.place.result) (λ st. refl) (c.place.ensures ∙ c.subject.ensures.replies (Where c.args.role) ∙ ap (λ (st : Standing). reply (ground_in h v) st e) (c.kept-kept.ensures c.fresh-fresh.ensures)) in
     record { performs = both.0; law = both.1 }

@@ -9,7 +9,7 @@ ghost use Rattle.std.proofs.Common.{rules, arith};
 use super::cellset::CellSet;
 use arrayvec::ArrayVec;
 use listed::floor::Floor;
-use listed::parts::parts;
+use listed::parts::padded_parts;
 use listed::shape::Shape;
 use point::Point;
 use wordlist::fields::bits;
@@ -62,7 +62,7 @@ impl Shape for CellSet {
         CellSet {
             ty: bits(head, 0, 4) as u8,
             count: body.len(),
-            rows: parts(body, row),
+            rows: padded_parts(body, row),
         }
     }
 

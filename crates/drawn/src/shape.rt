@@ -8,7 +8,7 @@ ghost use Rattle.std.proofs.Common.{rules, arith};
 use super::outline::Outline;
 use arrayvec::ArrayVec;
 use listed::floor::Floor;
-use listed::parts::parts;
+use listed::parts::padded_parts;
 use listed::shape::Shape;
 use point::Point;
 use ring::covered;
@@ -59,7 +59,7 @@ impl Shape for Outline {
         Outline {
             ty: bits(head, 0, 4) as u8,
             count: body.len(),
-            corners: parts(body, corner),
+            corners: padded_parts(body, corner),
         }
     }
 

@@ -1,7 +1,7 @@
--- `parts`: one part more.
+-- `padded_parts`: one part more.
 use Rattle.std.proofs.Common.{◌≡◌, ◌<◌, length, get_or, set, ap, ◌∙◌, arith, length-set}
 use Rattle.listed.proofs.Padded.{filling_more}
-use Rattle.listed.proofs.parts.parts.Goals as goal
+use Rattle.listed.proofs.parts.padded_parts.Goals as goal
 
 pub loop-k-preserved : goal.loop-k-preserved
 loop-k-preserved g c =

@@ -5,7 +5,7 @@ ghost use Rattle.listed.specs.Padding.{padded};
 
 use arrayvec::ArrayVec;
 
-/// What each of the words says, one part for a word.
+/// What each of the words says, one part for a word; the parts need not be `Copy`.
 pub fn parts<T: Default + Drop, F: Fn(u32) -> T>(
     words: &ArrayVec<u32, 16>,
     part: F,
